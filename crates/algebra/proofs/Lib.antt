@@ -1,0 +1,9 @@
+pub mod Xor
+pub mod Product
+pub mod OnlyProduct
+pub mod Remainders
+pub mod Long
+pub mod Guard
+pub mod Repeats
+pub mod Multiples
+pub mod Division

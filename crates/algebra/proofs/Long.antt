@@ -1,0 +1,37 @@
+-- The carry-less product from the highest digit downward, and its length. Assumes nothing.
+use mathlib.Core.Path.{_≡_, refl, sym, ap, ap₂, _∙_, subst}
+use Prim.Native.Nat.{ℕ, zero, suc, _+_, _-_, _*_, _/_, _%_, _^_, _≤_, _<_}
+use native.Mathlib.Nat.{pow-suc, zero-mul, one-mul, add-zero, add-suc, lt-of-lt-of-le}
+use native.Mathlib.Omega.{arith}
+use lib.Arith.{lt-one}
+use lib.Pow.{pow-pos, pow-mono, shr-shr}
+use lib.Bits.{bitXor, xor-comm, xor-lt}
+use Rattle.algebra.specs.Gf2.{_⊗_}
+use Rattle.algebra.proofs.Xor.{digit-lt}
+use Rattle.algebra.proofs.Product.{times-zero, times-step}
+
+pub long-next : (k a b s : ℕ) → s < k → bitXor (a ⊗ (b / 2 ^ (k - s)) * 2) (b / 2 ^ ((k - 1) - s) % 2 * a) ≡ a ⊗ (b / 2 ^ (k - (s + 1)))
+long-next k a b s h =
+    let i = k - (s + 1) in
+    let e : (k - 1) - s ≡ i = omega arith in
+    let f : k - s ≡ i + 1 = omega arith in
+    ap₂ (λ (x y : ℕ). bitXor (a ⊗ x * 2) (b / 2 ^ y % 2 * a)) (ap (λ (x : ℕ). b / 2 ^ x) f ∙ sym (shr-shr b i 1)) e
+    ∙ xor-comm (a ⊗ (b / 2 ^ i / 2) * 2) (b / 2 ^ i % 2 * a)
+    ∙ sym (times-step a (b / 2 ^ i))
+
+digit-below : (i a c : ℕ) → a < 2 ^ i → c < 2 → c * a < 2 ^ i
+digit-below i a zero l h = subst (λ (x : ℕ). x < 2 ^ i) (sym (zero-mul a)) (pow-pos i)
+digit-below i a (suc zero) l h = subst (λ (x : ℕ). x < 2 ^ i) (sym (one-mul a)) l
+digit-below i a (suc (suc c)) l h = absurd (omega arith)
+
+pub times-lt : (i j a b : ℕ) → a < 2 ^ i → b < 2 ^ j → a ⊗ b < 2 ^ (i + j)
+times-lt i zero a b l h = subst (λ (x : ℕ). x < 2 ^ (i + 0)) (sym (ap (λ (x : ℕ). a ⊗ x) (lt-one h) ∙ times-zero a)) (pow-pos (i + 0))
+times-lt i (suc j) a b l h =
+    let s = pow-suc 2 j in
+    let half : b / 2 < 2 ^ j = omega arith in
+    let ih = times-lt i j a (b / 2) l half in
+    let t : 2 ^ (i + suc j) ≡ 2 ^ (i + j) * 2 = ap (λ (x : ℕ). 2 ^ x) (add-suc i j) ∙ pow-suc 2 (i + j) in
+    let n : i ≤ i + suc j = omega arith in
+    let m : a ⊗ (b / 2) * 2 < 2 ^ (i + suc j) = omega (arith, t, ih) in
+    subst (λ (x : ℕ). x < 2 ^ (i + suc j)) (sym (times-step a b))
+    (xor-lt (i + suc j) (b % 2 * a) (a ⊗ (b / 2) * 2) (lt-of-lt-of-le (digit-below i a (b % 2) l (digit-lt b)) (pow-mono n)) m)

@@ -1,0 +1,3 @@
+pub mod Gf2
+pub mod Ring
+pub mod Repeated

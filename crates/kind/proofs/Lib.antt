@@ -1,0 +1,2 @@
+mod CountsLaws
+mod FieldLaws

@@ -1,0 +1,1 @@
+// Integer multiples of a code, proved from the laws of a kind alone.

@@ -1,0 +1,1 @@
+// Powers of the base, proved from the laws of a kind alone.
