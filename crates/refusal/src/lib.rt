@@ -1,11 +1,12 @@
 // Refusals: which of the seventeen listed faults a call found, at which place, in which layer.
 ghost use mathlib.Core.Path.{_≡_};
 ghost use Rattle.std.specs.declared.option.Option.the-variants.{Some};
+ghost use Rattle.std.specs.Orderings.{Decides};
 ghost use Rattle.refusal.specs.Numbers.{numberOf, wordOf, textOf};
 use std::fmt;
 
 // What is wrong: one case for each numbered refusal, in the order of the numbers.
-#[derive(Clone, Copy, PartialEq, Eq, Debug)]
+#[derive(Clone, Copy, Eq, Debug)]
 pub enum Fault {
     // The bytes end inside a command or before END.
     Truncated,
@@ -86,6 +87,15 @@ impl Fault {
             Fault::NotAnInput => 16,
             Fault::BadSlots => 17,
         }
+    }
+}
+
+// Faults are equal where their numbers are.
+pub impl PartialEq<Fault> for Fault as FaultPartialEq {
+    ghost equals = { λ x y r. Decides r (x ≡ y) };
+
+    fn eq(&self, other: &Fault) -> bool {
+        self.number() == other.number()
     }
 }
 
