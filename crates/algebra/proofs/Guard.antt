@@ -3,7 +3,7 @@ use mathlib.Core.Path.{_≡_, refl, sym, ap, ap₂, _∙_, subst}
 use mathlib.Core.Bool.{Bool, true, false, cond}
 use Prim.Native.Nat.{ℕ}
 use lib.Dec.{T}
-use Rattle.algebra.specs.Ring.{Ring, Code, Laws, Lawful, on-code, on-codes, guarded}
+use Rattle.algebra.specs.Ring.{Ring, Code, Laws, Lawful, on-codes, guarded}
 
 cond-in : (b : Bool) (x : ℕ) → T b → cond b x 0 ≡ x
 cond-in true x t = refl

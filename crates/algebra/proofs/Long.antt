@@ -1,11 +1,10 @@
--- The carry-less product from the highest digit downward, and its length. Assumes nothing.
-use mathlib.Core.Path.{_≡_, refl, sym, ap, ap₂, _∙_, subst}
+-- The carry-less product from the highest binary digit downward, and its length. Assumes nothing.
+use mathlib.Core.Path.{_≡_, sym, ap, ap₂, _∙_, subst}
 use Prim.Native.Nat.{ℕ, zero, suc, _+_, _-_, _*_, _/_, _%_, _^_, _≤_, _<_}
-use native.Mathlib.Nat.{pow-suc, zero-mul, one-mul, add-zero, add-suc, lt-of-lt-of-le}
+use native.Mathlib.Nat.{pow-suc, zero-mul, one-mul, add-suc, lt-of-lt-of-le, div-eq-of-lt}
 use native.Mathlib.Omega.{arith}
-use lib.Arith.{lt-one}
 use lib.Pow.{pow-pos, pow-mono, shr-shr}
-use lib.Bits.{bitXor, xor-comm, xor-lt}
+use lib.Bits.{bitXor, xor-comm, xor-lt, xor-zero-r}
 use Rattle.algebra.specs.Gf2.{_⊗_}
 use Rattle.algebra.proofs.Xor.{digit-lt}
 use Rattle.algebra.proofs.Product.{times-zero, times-step}
@@ -24,14 +23,18 @@ digit-below i a zero l h = subst (λ (x : ℕ). x < 2 ^ i) (sym (zero-mul a)) (p
 digit-below i a (suc zero) l h = subst (λ (x : ℕ). x < 2 ^ i) (sym (one-mul a)) l
 digit-below i a (suc (suc c)) l h = absurd (omega arith)
 
-pub times-lt : (i j a b : ℕ) → a < 2 ^ i → b < 2 ^ j → a ⊗ b < 2 ^ (i + j)
-times-lt i zero a b l h = subst (λ (x : ℕ). x < 2 ^ (i + 0)) (sym (ap (λ (x : ℕ). a ⊗ x) (lt-one h) ∙ times-zero a)) (pow-pos (i + 0))
+pub times-lt : (i j a b : ℕ) → a < 2 ^ suc i → b < 2 ^ suc j → a ⊗ b < 2 ^ suc (i + j)
+times-lt i zero a b l h =
+    let z : b / 2 ≡ 0 = div-eq-of-lt h in
+    let e : a ⊗ b ≡ b % 2 * a = times-step a b ∙ ap (λ (x : ℕ). bitXor (b % 2 * a) (a ⊗ x * 2)) z ∙ ap (λ (x : ℕ). bitXor (b % 2 * a) (x * 2)) (times-zero a) ∙ xor-zero-r (b % 2 * a) in
+    let n : i + 0 ≡ i = omega arith in
+    subst (λ (x : ℕ). a ⊗ b < 2 ^ suc x) (sym n) (subst (λ (x : ℕ). x < 2 ^ suc i) (sym e) (digit-below (suc i) a (b % 2) l (digit-lt b)))
 times-lt i (suc j) a b l h =
-    let s = pow-suc 2 j in
-    let half : b / 2 < 2 ^ j = omega arith in
+    let s = pow-suc 2 (suc j) in
+    let half : b / 2 < 2 ^ suc j = omega arith in
     let ih = times-lt i j a (b / 2) l half in
-    let t : 2 ^ (i + suc j) ≡ 2 ^ (i + j) * 2 = ap (λ (x : ℕ). 2 ^ x) (add-suc i j) ∙ pow-suc 2 (i + j) in
-    let n : i ≤ i + suc j = omega arith in
-    let m : a ⊗ (b / 2) * 2 < 2 ^ (i + suc j) = omega (arith, t, ih) in
-    subst (λ (x : ℕ). x < 2 ^ (i + suc j)) (sym (times-step a b))
-    (xor-lt (i + suc j) (b % 2 * a) (a ⊗ (b / 2) * 2) (lt-of-lt-of-le (digit-below i a (b % 2) l (digit-lt b)) (pow-mono n)) m)
+    let t : 2 ^ suc (i + suc j) ≡ 2 ^ suc (i + j) * 2 = ap (λ (x : ℕ). 2 ^ suc x) (add-suc i j) ∙ pow-suc 2 (suc (i + j)) in
+    let n : suc i ≤ suc (i + suc j) = omega arith in
+    let m : a ⊗ (b / 2) * 2 < 2 ^ suc (i + suc j) = omega (arith, t, ih) in
+    subst (λ (x : ℕ). x < 2 ^ suc (i + suc j)) (sym (times-step a b))
+    (xor-lt (suc (i + suc j)) (b % 2 * a) (a ⊗ (b / 2) * 2) (lt-of-lt-of-le (digit-below (suc i) a (b % 2) l (digit-lt b)) (pow-mono n)) m)

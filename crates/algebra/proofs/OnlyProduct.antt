@@ -1,13 +1,13 @@
 -- The carry-less product is the only product of polynomials. Assumes nothing.
-use mathlib.Core.Path.{_≡_, refl, sym, ap, ap₂, _∙_}
+use mathlib.Core.Path.{_≡_, sym, ap, ap₂, _∙_}
 use Prim.Native.Nat.{ℕ, zero, suc, _+_, _*_, _/_, _%_, _^_, _<_}
-use native.Mathlib.Nat.{zero-mul, one-mul, mul-one, mul-assoc, mul-comm, pow-suc, add-zero, add-suc}
+use native.Mathlib.Nat.{zero-mul, one-mul, mul-one, mul-assoc, pow-suc}
 use native.Mathlib.Omega.{arith}
 use lib.Arith.{bin-ind}
 use lib.Pow.{pow-add}
-use lib.Bits.{bitXor, xor-zero-r, xor-self, xor-block}
+use lib.Bits.{bitXor, xor-self}
 use Rattle.algebra.specs.Gf2.{_⊗_, Product, Product-law}
-use Rattle.algebra.proofs.Xor.{xor-twice, xor-double, digit-lt, by-digits}
+use Rattle.algebra.proofs.Xor.{xor-double, digit-lt, by-digits}
 use Rattle.algebra.proofs.Product.{times-xor-l, times-xor-r, times-power}
 
 -- linear functions that agree on the powers of X are equal

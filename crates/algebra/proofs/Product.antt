@@ -1,11 +1,11 @@
 -- The carry-less product: a commutative ring with bitXor. Assumes nothing.
 use mathlib.Core.Path.{_≡_, refl, sym, ap, ap₂, _∙_}
 use Prim.Native.Nat.{ℕ, zero, suc, _+_, _*_, _/_, _%_, _^_, _≤_, _<_}
-use native.Mathlib.Nat.{mod-lt, zero-mul, one-mul, mul-zero, mul-one, mul-assoc, mul-comm, le-refl, not-suc-le-zero, zero-div, zero-mod, mul-div-cancel, mul-mod-left, pow-suc}
+use native.Mathlib.Nat.{zero-mul, one-mul, mul-zero, mul-one, mul-assoc, mul-comm, le-refl, not-suc-le-zero, mul-div-cancel, mul-mod-left, pow-suc}
 use native.Mathlib.Decide.{le-ind}
 use native.Mathlib.Omega.{arith}
 use lib.Arith.{half-le, bin-ind}
-use lib.Bits.{bitXor, xor-comm, xor-assoc, xor-zero-l, xor-zero-r, xor-self, xor-shr, xor-mod}
+use lib.Bits.{bitXor, xor-shr, xor-mod}
 use Rattle.algebra.specs.Gf2.{carryless, _⊗_}
 use Rattle.algebra.proofs.Xor.{xor-swap, xor-double, digit-xor, digits-xor, digit-lt, by-digits}
 

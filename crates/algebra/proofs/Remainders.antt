@@ -1,18 +1,17 @@
 -- The remainder by a polynomial p of degree k: it exists, it is the only one, and it keeps sums and products. Assumes nothing.
 use mathlib.Core.Path.{_≡_, refl, sym, ap, ap₂, _∙_, subst}
 use mathlib.Core.Bool.{Bool, true, false, not, cond}
-use mathlib.Core.Logic.{_⊎_, inl, inr}
 use Prim.Native.Nat.{ℕ, zero, suc, _+_, _-_, _*_, _/_, _%_, _^_, _≤_, _<_}
-use native.Mathlib.Nat.{zero-mul, one-mul, le-refl, not-suc-le-zero, pow-suc, mul-comm, le-of-eq, mul-div-cancel, mul-mod-left, zero-lt-suc, add-zero, suc-add, mul-le-mul-right}
+use native.Mathlib.Nat.{zero-mul, one-mul, le-refl, not-suc-le-zero, pow-suc, suc-add, mul-le-mul-right}
 use native.Mathlib.Decide.{le-ind, decLt, ℕ-discrete}
 use native.Mathlib.Omega.{arith}
 use lib.Arith.{half-le, bin-ind, le→nltb}
 use lib.Dec.{T, ltb, lt→ltb}
 use lib.Pow.{pow-pos, pow-add, shl-lt}
-use lib.Bits.{bitXor, xor-comm, xor-assoc, xor-zero-l, xor-zero-r, xor-self, xor-lt, xor-block, xor-shifted}
+use lib.Bits.{bitXor, xor-comm, xor-assoc, xor-zero-r, xor-self, xor-lt, xor-block, xor-shifted}
 use Rattle.algebra.specs.Gf2.{_⊗_, Degree, Remainder, OnlyRemainder, fold, reduce, remainder}
 use Rattle.algebra.proofs.Xor.{xor-swap, xor-twice, xor-equal, xor-double, digit-lt, by-digits}
-use Rattle.algebra.proofs.Product.{times-zero, times-step, times-step-l, times-xor-l, times-double-l, times-comm, times-assoc, times-power, one-times, zero-times}
+use Rattle.algebra.proofs.Product.{times-step-l, times-xor-l, times-double-l, times-comm, times-assoc, times-power, one-times, zero-times}
 
 -- ---- the steps of the recursion
 

@@ -1,12 +1,15 @@
 -- Integer multiples and powers of a code. Assumes nothing.
 --     repeated op unit n c   c joined n times by op, the unit where n is 0
---     multiple r z c         the integer z times c, by sum and negative
+--     many r n c             c taken n times
+--     multiple r z c         the integer z times c: c taken |z| times, and the negative of that where z is below 0
 --     power r c n            c to the n
 --     Multiples r            on codes z times c is additive in z and once c is c, so it is the multiple; products pass through it, and it is 0 at a number that is no code
 --     Powers r               base^0 is the one, base^1 the base, and exponents add up
 use mathlib.Core.Path.{_≡_}
 use Prim.Native.Nat.{ℕ, zero, suc, _+_}
-use lib.IntN.{ℤ, pos, negsuc, _+ℤ_}
+use mathlib.Core.Bool.{cond}
+use lib.IntN.{ℤ, pos, natAbs, _+ℤ_}
+use lib.Signed.{ltZ}
 use Rattle.algebra.specs.Ring.{Ring, Code}
 
 abbrev pub repeated : (ℕ → ℕ → ℕ) → ℕ → ℕ → ℕ → ℕ
@@ -17,8 +20,7 @@ abbrev pub many : Ring → ℕ → ℕ → ℕ
 many r n c = repeated (r .sum) 0 n c
 
 abbrev pub multiple : Ring → ℤ → ℕ → ℕ
-multiple r (pos n) c = many r n c
-multiple r (negsuc n) c = r .negative (many r (suc n) c)
+multiple r z c = cond (ltZ z (pos 0)) (r .negative (many r (natAbs z) c)) (many r (natAbs z) c)
 
 abbrev pub power : Ring → ℕ → ℕ → ℕ
 power r c n = repeated (r .product) (r .one) n c

@@ -1,7 +1,7 @@
 -- The laws of the counts kind, for every width. Assumes nothing.
-use mathlib.Core.Path.{_≡_, refl, sym, ap, ap₂, _∙_}
-use Prim.Native.Nat.{ℕ, suc, _+_, _-_, _*_, _/_, _%_, _^_, _≤_, _<_}
-use native.Mathlib.Nat.{lt-of-lt-of-le, mod-lt, mod-eq-of-lt, mod-self, zero-mod, mod-add-mod, add-mod-mod, add-mod, add-assoc, add-comm, add-zero, mul-assoc, mul-comm, mul-one, add-mul, mul-add-mod-self-right, div-add-mod'}
+use mathlib.Core.Path.{_≡_, sym, ap, _∙_}
+use Prim.Native.Nat.{ℕ, _+_, _-_, _*_, _/_, _%_, _^_, _≤_}
+use native.Mathlib.Nat.{lt-of-lt-of-le, mod-lt, mod-eq-of-lt, mod-self, mod-add-mod, add-mod-mod, add-mod, add-assoc, add-comm, add-zero, mul-assoc, mul-comm, mul-one, add-mul, mul-add-mod-self-right, div-add-mod'}
 use native.Mathlib.Omega.{arith}
 use lib.Dec.{T, ltb, ltb→lt, lt→ltb}
 use lib.Pow.{pow-pos, pow-mono}

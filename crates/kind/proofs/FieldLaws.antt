@@ -1,10 +1,10 @@
 -- The laws of the field kind, for every degree and modulus. Assumes nothing.
-use mathlib.Core.Path.{_≡_, refl, sym, ap, ap₂, _∙_}
-use Prim.Native.Nat.{ℕ, suc, _^_, _≤_, _<_}
+use mathlib.Core.Path.{sym, ap, _∙_}
+use Prim.Native.Nat.{ℕ, _^_, _≤_}
 use native.Mathlib.Nat.{lt-of-lt-of-le, le-trans}
 use native.Mathlib.Omega.{arith}
-use lib.Dec.{T, ltb, ltb→lt, lt→ltb, lit≤}
-use lib.Pow.{pow-pos, pow-mono}
+use lib.Dec.{ltb→lt, lt→ltb, lit≤}
+use lib.Pow.{pow-mono}
 use lib.Bits.{bitXor, xor-comm, xor-assoc, xor-zero-r, xor-self, xor-lt}
 use Rattle.algebra.specs.Gf2.{_⊗_, Degree, remainder}
 use Rattle.algebra.proofs.Product.{times-comm, times-assoc, times-xor-l, one-times}

@@ -9,6 +9,7 @@ use super::bad_kind;
 use refusal::Refusal;
 
 const LEAST_WIDTH: u32 = 1;
+
 const MOST_WIDTH: u32 = 32;
 
 #[derive(Clone, Copy)]

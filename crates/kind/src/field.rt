@@ -1,6 +1,6 @@
 // The field kind: polynomials over the two-element field, modulo one of a degree from 2 to 8.
 ghost use mathlib.Core.Path.{_≡_};
-ghost use Prim.Native.Nat.{ℕ, _^_, _<_};
+ghost use Prim.Native.Nat.{ℕ, _^_, _<_, _≤_};
 ghost use Rattle.std.specs.Results.{Cases as ByOk};
 ghost use Rattle.algebra.specs.Gf2.{_⊗_, remainder, OnlyRemainder};
 ghost use Rattle.kind.specs.Field.{FieldSize, field as ringOfField};
@@ -11,6 +11,7 @@ use algebra::gf2::carryless_product;
 use refusal::Refusal;
 
 const LEAST_DEGREE: u32 = 2;
+
 const MOST_DEGREE: u32 = 8;
 
 #[derive(Clone, Copy)]
@@ -42,12 +43,15 @@ impl Field {
         1u32 << self.degree
     }
 
-    // The remainder by the modulus: its multiples are taken away, the highest first.
-    fn reduced(&self, x: u16) -> u32
-        ensures { λ r. ⌜ r ≡ remainder (now (self .entry) .degree) (now (self .entry) .modulus) x ⌝ }
+    // The remainder by the modulus of a polynomial that has a number of bits: multiples of the modulus are taken away, the highest first.
+    fn reduced(&self, x: u16, bits: u32) -> u32
+        requires short { ⌜ x < 2 ^ bits ⌝ }
+        requires most { ⌜ bits ≤ 16 ⌝ }
+        ensures value { λ r. ⌜ r ≡ remainder (now (self .entry) .degree) (now (self .entry) .modulus) x ⌝ }
+        ensures only { λ r. ⌜ OnlyRemainder (now (self .entry) .degree) (now (self .entry) .modulus) x r ⌝ }
     {
         let mut rest = u32::from(x);
-        for i in (self.degree..16).rev() {
+        for i in (self.degree..bits).rev() {
             if (rest >> i) % 2 == 1 {
                 rest ^= self.modulus << (i - self.degree);
             }
@@ -89,7 +93,7 @@ pub impl Kind for Field as FieldKind {
         ensures remainder { λ r. ⌜ (a < 2 ^ now (self .entry) .degree → b < 2 ^ now (self .entry) .degree → OnlyRemainder (now (self .entry) .degree) (now (self .entry) .modulus) (a ⊗ b) r) ⌝ }
     {
         if self.is_code(a) && self.is_code(b) {
-            self.reduced(carryless_product(a as u8, b as u8))
+            self.reduced(carryless_product(a as u8, b as u8), 15)
         } else {
             0
         }

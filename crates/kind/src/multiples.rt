@@ -14,7 +14,8 @@ pub fn multiple<K: Kind>(kind: &K, times: i32, code: u32) -> u32
 
 // A code taken some times, by doubling.
 fn many<K: Kind>(kind: &K, times: u32, code: u32) -> u32
-    ensures { λ r. ⌜ r ≡ manyOf (ring (now (kind .entry))) times code ⌝ }
+    ensures value { λ r. ⌜ r ≡ manyOf (ring (now (kind .entry))) times code ⌝ }
+    ensures law { λ _. ⌜ Multiples (ring (now (kind .entry))) ⌝ }
 {
     if !kind.is_code(code) {
         return 0;

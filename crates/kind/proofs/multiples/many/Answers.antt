@@ -2,7 +2,7 @@ use mathlib.Core.Path.{_≡_, refl, sym, subst, _∙_}
 use mathlib.Core.Bool.{Bool, true, false}
 use lib.Dec.{T}
 use Rattle.algebra.proofs.Repeats.{doubling-starts, doubling-odd, doubling-even, doubling-ends}
-use Rattle.algebra.proofs.Multiples.{sums, many-outside}
+use Rattle.algebra.proofs.Multiples.{sums, many-outside, multiples}
 use Rattle.kind.proofs.multiples.many.Needs as need
 use Rattle.kind.proofs.multiples.many.Needs.{then-rest-eq1, else-rest-eq1}
 
@@ -15,7 +15,9 @@ some e = subst T e tt
 pub returns-then-not-is-code : need.returns-then-not-is-code
 returns-then-not-is-code g c =
     let k = c .args .kind .now in
-    sym (many-outside (g .K·Kind .ring k) (g .K·Kind·met .lawful k) (c .args .times) (c .args .code) (none (c .if-not-is-code .ensures tt)))
+    let r = g .K·Kind .ring k in
+    let l = g .K·Kind·met .lawful k in
+    record { value = sym (many-outside r l (c .args .times) (c .args .code) (none (c .if-not-is-code .ensures tt))); law = multiples r l }
 
 pub loop-rest-holds : need.loop-rest-holds
 loop-rest-holds g c =
@@ -34,4 +36,6 @@ loop-rest-again g c =
 pub returns : need.returns
 returns g c =
     let k = c .args .kind .now in
-    doubling-ends (sums (g .K·Kind .ring k) (g .K·Kind·met .lawful k .laws)) (c .loop-rest .inv) (c .loop-rest-test .left)
+    let r = g .K·Kind .ring k in
+    let l = g .K·Kind·met .lawful k in
+    record { value = doubling-ends (sums r (l .laws)) (c .loop-rest .inv) (c .loop-rest-test .left); law = multiples r l }

@@ -1,11 +1,11 @@
 use mathlib.Core.Path.{_≡_, sym, ap, _∙_, subst}
-use Prim.Native.Nat.{ℕ, suc, _+_, _-_, _*_, _%_, _^_, _<_, _≤_}
+use Prim.Native.Nat.{ℕ, suc, _+_, _-_, _^_, _<_, _≤_}
 use native.Mathlib.Nat.{lt-of-lt-of-le}
 use native.Mathlib.Omega.{arith}
 use lib.Bits.{bitXor}
 use lib.Pow.{pow-mono, shl-exact}
-use Rattle.algebra.specs.Gf2.{remainder}
-use Rattle.algebra.proofs.Remainders.{remainder-small}
+use Rattle.algebra.specs.Gf2.{remainder, OnlyRemainder}
+use Rattle.algebra.proofs.Remainders.{remainder-small, only-remainder}
 use Rattle.algebra.proofs.Division.{bit-clear, division-step}
 use Rattle.kind.proofs.field.Field.reduced.Needs as need
 
@@ -38,6 +38,9 @@ loop-i-again c =
 
 pub returns : need.returns
 returns c =
-    let f = c .args .self .now in
+    let k = c .args .self .now .degree in
+    let p = c .args .self .now .modulus in
+    let deg = c .args .self .now .sized .2 in
     let l = lt-of-lt-of-le (c .loop-i .inv .0) (pow-mono (c .loop-i-test .left)) in
-    sym (remainder-small (f .degree) (f .modulus) (f .sized .2) (c .loop-i .rest) l) ∙ c .loop-i .inv .1
+    let e : c .loop-i .rest ≡ remainder k p (c .args .x) = sym (remainder-small k p deg (c .loop-i .rest) l) ∙ c .loop-i .inv .1 in
+    record { value = e; only = subst (OnlyRemainder k p (c .args .x)) (sym e) (only-remainder k p deg (c .args .x)) }

@@ -1,14 +1,14 @@
-use mathlib.Core.Path.{_∙_}
+use mathlib.Core.Path.{refl, _∙_}
 use Rattle.algebra.proofs.Repeats.{doubling-starts, doubling-odd, doubling-even, doubling-ends}
 use Rattle.algebra.proofs.Multiples.{products, powers}
-use Rattle.kind.proofs.powers.base_power.Needs as need
-use Rattle.kind.proofs.powers.base_power.Needs.{then-rest-eq1, else-rest-eq1}
+use Rattle.kind.proofs.powers.power.Needs as need
+use Rattle.kind.proofs.powers.power.Needs.{then-rest-eq1, else-rest-eq1}
 
 pub loop-rest-holds : need.loop-rest-holds
 loop-rest-holds g c =
     let k = c .args .kind .now in
     let l = g .K·Kind·met .lawful k .laws in
-    doubling-starts (products (g .K·Kind .ring k) l) (l .base-code) (c .one-product .ensures) (c .base-square .ensures)
+    doubling-starts (products (g .K·Kind .ring k) l) (c .pre) (c .one-product .ensures) refl
 
 pub loop-rest-again : need.loop-rest-again
 loop-rest-again g c =
