@@ -1,14 +1,15 @@
 -- The carry-less product from the highest binary digit downward, and its length. Assumes nothing.
 use mathlib.Core.Path.{_≡_, sym, ap, ap₂, _∙_, subst}
 use Prim.Native.Nat.{ℕ, zero, suc, _+_, _-_, _*_, _/_, _%_, _^_, _≤_, _<_}
-use native.Mathlib.Nat.{pow-suc, zero-mul, one-mul, add-suc, lt-of-lt-of-le, div-eq-of-lt}
+use native.Mathlib.Nat.{pow-suc, add-suc, lt-of-lt-of-le, div-eq-of-lt}
 use native.Mathlib.Omega.{arith}
-use lib.Pow.{pow-pos, pow-mono, shr-shr}
+use lib.Pow.{pow-mono, shr-shr}
 use lib.Bits.{bitXor, xor-comm, xor-lt, xor-zero-r}
 use Rattle.algebra.specs.Gf2.{_⊗_}
-use Rattle.algebra.proofs.Xor.{digit-lt}
+use Rattle.algebra.proofs.Xor.{digit-lt, digit-below}
 use Rattle.algebra.proofs.Product.{times-zero, times-step}
 
+-- one digit more of the second factor: twice the product so far, and the first factor where the digit is 1
 pub long-next : (k a b s : ℕ) → s < k → bitXor (a ⊗ (b / 2 ^ (k - s)) * 2) (b / 2 ^ ((k - 1) - s) % 2 * a) ≡ a ⊗ (b / 2 ^ (k - (s + 1)))
 long-next k a b s h =
     let i = k - (s + 1) in
@@ -18,11 +19,7 @@ long-next k a b s h =
     ∙ xor-comm (a ⊗ (b / 2 ^ i / 2) * 2) (b / 2 ^ i % 2 * a)
     ∙ sym (times-step a (b / 2 ^ i))
 
-digit-below : (i a c : ℕ) → a < 2 ^ i → c < 2 → c * a < 2 ^ i
-digit-below i a zero l h = subst (λ (x : ℕ). x < 2 ^ i) (sym (zero-mul a)) (pow-pos i)
-digit-below i a (suc zero) l h = subst (λ (x : ℕ). x < 2 ^ i) (sym (one-mul a)) l
-digit-below i a (suc (suc c)) l h = absurd (omega arith)
-
+-- a product of two polynomials is as long as both together, less one bit
 pub times-lt : (i j a b : ℕ) → a < 2 ^ suc i → b < 2 ^ suc j → a ⊗ b < 2 ^ suc (i + j)
 times-lt i zero a b l h =
     let z : b / 2 ≡ 0 = div-eq-of-lt h in

@@ -1,33 +1,24 @@
 -- The remainder by a polynomial p of degree k: it exists, it is the only one, and it keeps sums and products. Assumes nothing.
 use mathlib.Core.Path.{_≡_, refl, sym, ap, ap₂, _∙_, subst}
-use mathlib.Core.Bool.{Bool, true, false, not, cond}
 use Prim.Native.Nat.{ℕ, zero, suc, _+_, _-_, _*_, _/_, _%_, _^_, _≤_, _<_}
-use native.Mathlib.Nat.{zero-mul, one-mul, le-refl, not-suc-le-zero, pow-suc, suc-add, mul-le-mul-right}
+use native.Mathlib.Nat.{le-refl, not-suc-le-zero, pow-suc, suc-add, mul-le-mul-right}
 use native.Mathlib.Decide.{le-ind, decLt, ℕ-discrete}
 use native.Mathlib.Omega.{arith}
-use lib.Arith.{half-le, bin-ind, le→nltb}
-use lib.Dec.{T, ltb, lt→ltb}
+use lib.Arith.{half-le, bin-ind}
 use lib.Pow.{pow-pos, pow-add, shl-lt}
 use lib.Bits.{bitXor, xor-comm, xor-assoc, xor-zero-r, xor-self, xor-lt, xor-block, xor-shifted}
+use Rattle.std.proofs.shelf.Tests.{cond-below, cond-above}
 use Rattle.algebra.specs.Gf2.{_⊗_, Degree, Remainder, OnlyRemainder, fold, reduce, remainder}
-use Rattle.algebra.proofs.Xor.{xor-swap, xor-twice, xor-equal, xor-double, digit-lt, by-digits}
+use Rattle.algebra.proofs.Xor.{digit-below, xor-swap, xor-twice, xor-equal, xor-double, digit-lt, by-digits}
 use Rattle.algebra.proofs.Product.{times-step-l, times-xor-l, times-double-l, times-comm, times-assoc, times-power, one-times, zero-times}
 
 -- ---- the steps of the recursion
 
-cond-true : (b : Bool) (x y : ℕ) → T b → cond b x y ≡ x
-cond-true true x y t = refl
-cond-true false x y t = absurd t
+fold-low : (k p y : ℕ) → y < 2 ^ k → fold k p y ≡ y
+fold-low k p y h = sym (cond-below y (2 ^ k) y (bitXor y p) h)
 
-cond-false : (b : Bool) (x y : ℕ) → T (not b) → cond b x y ≡ y
-cond-false true x y t = absurd t
-cond-false false x y t = refl
-
-pub fold-low : (k p y : ℕ) → y < 2 ^ k → fold k p y ≡ y
-fold-low k p y h = cond-true (ltb y (2 ^ k)) y (bitXor y p) (lt→ltb y (2 ^ k) h)
-
-pub fold-high : (k p y : ℕ) → 2 ^ k ≤ y → fold k p y ≡ bitXor y p
-fold-high k p y h = cond-false (ltb y (2 ^ k)) y (bitXor y p) (le→nltb y (2 ^ k) h)
+fold-high : (k p y : ℕ) → 2 ^ k ≤ y → fold k p y ≡ bitXor y p
+fold-high k p y h = sym (cond-above y (2 ^ k) y (bitXor y p) (bitXor y p) h refl)
 
 more : (k p n x : ℕ) → x ≤ n → reduce k p (suc n) x ≡ reduce k p n x
 unfolding reduce
@@ -39,11 +30,11 @@ more k p (suc n) (suc x) h = ap (λ (r : ℕ). fold k p (r * 2 + suc x % 2)) (mo
 enough : (k p n x : ℕ) → x ≤ n → reduce k p n x ≡ reduce k p x x
 enough k p n x h = le-ind (λ (m : ℕ). reduce k p m x ≡ reduce k p x x) refl (λ m l e. more k p m x l ∙ e) n h
 
-pub remainder-zero : (k p : ℕ) → remainder k p 0 ≡ 0
+remainder-zero : (k p : ℕ) → remainder k p 0 ≡ 0
 unfolding remainder reduce
 remainder-zero k p = refl
 
-pub remainder-step : (k p x : ℕ) → remainder k p x ≡ fold k p (remainder k p (x / 2) * 2 + x % 2)
+remainder-step : (k p x : ℕ) → remainder k p x ≡ fold k p (remainder k p (x / 2) * 2 + x % 2)
 unfolding remainder reduce
 remainder-step k p zero = sym (fold-low k p 0 (pow-pos k))
 remainder-step k p (suc x) = ap (λ (r : ℕ). fold k p (r * 2 + suc x % 2)) (enough k p x (suc x / 2) (half-le (le-refl (suc x))))
@@ -70,13 +61,8 @@ shift-degree k p i (low, high) = (
 )
 
 module _ (k p : ℕ) (deg : Degree k p) where
-  pub digit-below : (c : ℕ) → c < 2 → c * p < 2 ^ suc k
-  digit-below zero h = subst (λ (x : ℕ). x < 2 ^ suc k) (sym (zero-mul p)) (pow-pos (suc k))
-  digit-below (suc zero) h = subst (λ (x : ℕ). x < 2 ^ suc k) (sym (one-mul p)) (deg .1)
-  digit-below (suc (suc c)) h = absurd (omega arith)
-
   -- a multiple of p but 0 has degree k at least
-  pub multiple : (q : ℕ) → (q ≡ 0 → ⊥) → 2 ^ k ≤ q ⊗ p
+  multiple : (q : ℕ) → (q ≡ 0 → ⊥) → 2 ^ k ≤ q ⊗ p
   multiple =
       bin-ind (λ (n : ℕ). (n ≡ 0 → ⊥) → 2 ^ k ≤ n ⊗ p) (λ ne. absurd (ne refl)) (λ n ih ne. step n ih ne (ℕ-discrete (n / 2) 0))
     where
@@ -89,7 +75,7 @@ module _ (k p : ℕ) (deg : Degree k p) where
           let c = n % 2 * p in
           let s = pow-suc 2 k in
           let big : 2 ^ k ≤ m = ih f in
-          let small : c < 2 ^ suc k = digit-below (n % 2) (digit-lt n) in
+          let small : c < 2 ^ suc k = digit-below (suc k) p (n % 2) (deg .1) (digit-lt n) in
           le-of (decLt (n ⊗ p) (2 ^ k)) (λ l.
           let l′ : n ⊗ p < 2 ^ suc k = omega arith in
           let e : bitXor c (n ⊗ p) ≡ m * 2 = ap (bitXor c) (times-step-l n p) ∙ xor-twice c (m * 2) in
@@ -144,7 +130,7 @@ module _ (k p : ℕ) (deg : Degree k p) where
 
   -- ---- and is the only one
 
-  pub unique : {x r s : ℕ} → Remainder k p x r → Remainder k p x s → r ≡ s
+  unique : {x r s : ℕ} → Remainder k p x r → Remainder k p x s → r ≡ s
   unique {x} {r} {s} h g = xor-equal r s (zero-of (ℕ-discrete (bitXor (h .quotient) (g .quotient)) 0))
     where
       a : ℕ
@@ -168,7 +154,7 @@ module _ (k p : ℕ) (deg : Degree k p) where
           let m = multiple (bitXor (h .quotient) (g .quotient)) f in
           absurd (omega (arith, e, l, m))
 
-  pub remainder-is : {x r : ℕ} → Remainder k p x r → remainder k p x ≡ r
+  remainder-is : {x r : ℕ} → Remainder k p x r → remainder k p x ≡ r
   remainder-is {x} h = unique (exists x) h
 
   -- ---- sums and products
@@ -189,7 +175,7 @@ module _ (k p : ℕ) (deg : Degree k p) where
             ∙ ap (λ (z : ℕ). bitXor z (bitXor (remainder k p x) (remainder k p y))) (sym (times-xor-l (h .quotient) (g .quotient) p));
       })
 
-  pub remainder-multiple : (q : ℕ) → remainder k p (q ⊗ p) ≡ 0
+  remainder-multiple : (q : ℕ) → remainder k p (q ⊗ p) ≡ 0
   remainder-multiple q = remainder-is (record { small = pow-pos k; quotient = q; split = sym (xor-zero-r (q ⊗ p)) })
 
   pub remainder-times : (x y : ℕ) → remainder k p (remainder k p x ⊗ y) ≡ remainder k p (x ⊗ y)
