@@ -12,6 +12,7 @@ const LEAST_WIDTH: u32 = 1;
 
 const MOST_WIDTH: u32 = 32;
 
+// A counts kind: the codes are the numbers of `width` bits, and sums and products wrap around.
 #[derive(Clone, Copy)]
 pub struct Counts {
     width: u32,

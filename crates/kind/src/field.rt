@@ -14,6 +14,7 @@ const LEAST_DEGREE: u32 = 2;
 
 const MOST_DEGREE: u32 = 8;
 
+// A field kind: the codes are the polynomials of a degree below `degree`, and products are taken modulo `modulus`.
 #[derive(Clone, Copy)]
 pub struct Field {
     degree: u32,

@@ -11,7 +11,8 @@ pub mod field;
 pub mod multiples;
 pub mod powers;
 
-// A kind of coefficient: a ring on codes. `ring` is its meaning, and every implementation owes the laws.
+// A kind of coefficient: a commutative ring whose elements are codes, numbers below 2^32, 0 among them. `ring` is its meaning, and every
+// implementation owes the laws. At a number that is no code, sum, negative and product answer 0.
 pub trait Kind {
     ghost ring: { Self → Ring };
 
