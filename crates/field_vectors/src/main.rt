@@ -1,4 +1,4 @@
-// Published products in fields of characteristic two, run through the field kind and printed with what they should be.
+// Known products in fields of characteristic two, run through the field kind and printed with what they should be.
 ghost use mathlib.Core.Path.{_≡_};
 ghost use mathlib.Core.Bool.{cond};
 ghost use Prim.Native.Nat.{_+_, _-_, _^_, min};
@@ -10,7 +10,7 @@ use kind::field::FieldKind;
 use refusal::RefusalDisplay;
 use std::error::AnyError;
 
-// Two factors and their product, as published.
+// Two factors and the product that is expected of them.
 struct Vector(u32, u32, u32);
 
 impl Vector {
@@ -21,7 +21,7 @@ impl Vector {
         field.product(self.0, self.1)
     }
 
-    // Whether an answer is the product as published.
+    // Whether an answer is the product that is expected.
     fn holds(&self, answer: u32) -> bool
         ensures { λ r. ⌜ r ≡ eqb answer (now (self .entry) .2) ⌝ }
     {
@@ -37,7 +37,7 @@ struct Section<'a> {
     vectors: &'a [Vector],
 }
 
-// The products of the AES standard, the chain of doublings among them, and inverses, whose product is 1.
+// Six products that the AES standard works through, the chain of doublings among them, and three pairs of inverses in its field.
 const AES: [Vector; 9] = [
     Vector(0x57, 0x83, 0xc1),
     Vector(0x57, 0x13, 0xfe),
@@ -50,7 +50,7 @@ const AES: [Vector; 9] = [
     Vector(0x03, 0xf6, 0x01),
 ];
 
-// The fields of 4 and of 16 elements.
+// The fields of 4 and of 16 elements, worked out apart from this code.
 const FOUR: [Vector; 3] = [Vector(2, 2, 3), Vector(2, 3, 1), Vector(3, 3, 2)];
 
 const SIXTEEN: [Vector; 5] = [
