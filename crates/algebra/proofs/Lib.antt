@@ -7,3 +7,10 @@ pub mod Guard
 pub mod Repeats
 pub mod Multiples
 pub mod Division
+pub mod Bitsets
+pub mod RankLists
+pub mod Polys
+pub mod Rows
+pub mod Parts
+pub mod Lengths
+pub mod Gathers

@@ -1,0 +1,34 @@
+-- The polynomial of slots that stand in any order. A slot has a set and a number, and is free where the number is 0.
+-- Words: Slots, gather, Absent, Apart; setAt and numberAt as in Rows.
+use mathlib.Core.Path.{_≡_}
+use mathlib.Core.Bool.{cond}
+use mathlib.Core.List.{List, [], _∷_}
+use Prim.Native.Nat.{ℕ, _<_}
+use lib.Dec.{eqb}
+use lib.ListN.{length}
+use Rattle.algebra.specs.Poly.{Poly, put}
+pub use Rattle.algebra.specs.Rows.{setAt, numberAt}
+
+abbrev pub Slots : Type 0
+Slots = List (ℕ × ℕ)
+
+-- each slot that is not free gives its set its number
+abbrev pub gather : Slots → Poly
+gather [] = []
+gather (t ∷ ts) = cond (eqb (t .1) 0) (gather ts) (put (gather ts) (t .0) (t .1))
+
+-- no slot has the set S
+abbrev pub Absent : Slots → ℕ → Type 0
+Absent ts S = (i : ℕ) → i < length ts → 0 < numberAt ts i → setAt ts i ≡ S → ⊥
+
+-- two slots that have the same set
+pub record Twice (ts : Slots) (i j : ℕ) : Type 0 where
+  pub order : i < j
+  pub within : j < length ts
+  pub first : 0 < numberAt ts i
+  pub second : 0 < numberAt ts j
+  pub same : setAt ts i ≡ setAt ts j
+
+-- no set has two slots
+abbrev pub Apart : Slots → Type 0
+Apart ts = (i j : ℕ) → Twice ts i j → ⊥

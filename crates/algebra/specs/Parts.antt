@@ -1,0 +1,12 @@
+-- Parts of a list of sets.
+-- Words: Part.
+use mathlib.Core.Path.{_≡_}
+use mathlib.Core.List.{List, [], _∷_}
+use mathlib.Core.Logic.{_⊎_}
+use Prim.Native.Nat.{ℕ}
+
+-- the first list is the second with none, some or all of its sets left out
+abbrev pub Part : List ℕ → List ℕ → Type 0
+Part [] ys = Unit {0}
+Part (x ∷ xs) [] = ⊥
+Part (x ∷ xs) (y ∷ ys) = ((x ≡ y) × Part xs ys) ⊎ Part (x ∷ xs) ys

@@ -1,0 +1,13 @@
+pub mod Got
+pub mod Leading
+pub mod Taking
+pub mod Freeing
+pub mod Renumbering
+pub mod Linking
+pub mod Fields
+pub mod Sounds
+pub mod Search
+pub mod Scans
+pub mod Wipes
+pub mod Tables
+pub mod Answers

@@ -1,0 +1,5 @@
+pub mod Chains
+pub mod Ends
+pub mod Records
+pub mod Tables
+pub mod Bucketed

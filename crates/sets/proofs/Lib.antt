@@ -1,0 +1,4 @@
+pub mod Worded
+pub mod Numbers
+pub mod Hashes
+pub mod Roads

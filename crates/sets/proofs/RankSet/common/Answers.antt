@@ -1,0 +1,16 @@
+use native.Mathlib.Omega.{arith}
+use lib.Bits.{bitAnd}
+use Rattle.sets.proofs.Worded.{value-wordwise, sized-wordwise, and-blockwise}
+use Rattle.sets.proofs.RankSet.common.Needs as need
+
+pub ghost-result : need.ghost-result
+ghost-result c =
+    let s = c .args .self .now in
+    let t = c .args .other .now in
+    (sized-wordwise bitAnd and-blockwise (s .words) (t .words) (c .loop-i .words) (s .sized) (t .sized) (c .loop-i .inv .0) (λ k l. c .loop-i .inv .1 k (omega (arith, s .sized .0))), tt)
+
+pub returns : need.returns
+returns c =
+    let s = c .args .self .now in
+    let t = c .args .other .now in
+    value-wordwise bitAnd and-blockwise (s .words) (t .words) (c .loop-i .words) (omega (arith, s .sized .0, t .sized .0)) (omega (arith, s .sized .0)) (s .sized .1) (t .sized .1) (λ k l. c .loop-i .inv .1 k (omega (arith, s .sized .0)))

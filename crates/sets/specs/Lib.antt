@@ -1,0 +1,5 @@
+pub mod Words
+pub mod Numbers
+pub mod HighWords
+pub mod Ranks
+pub mod Hash

@@ -1,0 +1,5 @@
+pub mod Places
+pub mod Halving
+pub mod Shifted
+pub mod Writes
+pub mod Kept

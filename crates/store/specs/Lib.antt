@@ -1,0 +1,7 @@
+pub mod Answers
+pub mod Stores
+pub mod Slots
+pub mod Keys
+pub mod Tables
+pub mod Labelled
+pub mod Rowed
