@@ -6,6 +6,7 @@ pub mod Renumbering
 pub mod Linking
 pub mod Fields
 pub mod Sounds
+pub mod Spreads
 pub mod Search
 pub mod Scans
 pub mod Wipes

@@ -1,5 +1,5 @@
 -- The bucket table as a store.
--- Words: bucketPoly, bucketRoom, bucket-laws.
+-- Words: bucketPoly, bucketRoom, AlwaysSpread, bucket-laws.
 use mathlib.Core.Path.{_≡_}
 use mathlib.Core.List.{List, [], _∷_}
 use Prim.Native.Nat.{ℕ, zero, suc, _≤_, _<_, _^_}
@@ -17,6 +17,7 @@ use Rattle.buckets.specs.declared.term.Term.{Term}
 use Rattle.store.specs.Stores.{Room, Sized, StoreLaws, atMost}
 use Rattle.buckets.specs.declared.bucket.Buckets.{Buckets}
 use Rattle.buckets.specs.Records.{contentOf, contents}
+use Rattle.buckets.specs.Spread.{Spread}
 use Rattle.buckets.specs.Tables.{held, poly, places}
 
 abbrev pub bucketPoly : Buckets → Poly
@@ -25,6 +26,10 @@ bucketPoly b = poly (b .table)
 -- as many sets as the table has slots
 abbrev pub bucketRoom : Buckets → Room
 bucketRoom b = atMost (places (b .table))
+
+-- every table that there is is spread as `Spread` says
+abbrev pub AlwaysSpread : Type 0
+AlwaysSpread = (b : Buckets) → Spread (now (b .table .slots))
 
 -- each set has ranks below 512
 small-sets : (xs : List Term) (i : ℕ) → i < length (contents xs) → setAt (contents xs) i < 2 ^ 512

@@ -9,6 +9,7 @@ ghost use Rattle.algebra.specs.Gathered.{Absent, gather};
 ghost use Rattle.sets.specs.Numbers.{number};
 ghost use Rattle.buckets.specs.Chains.{Place, link};
 ghost use Rattle.buckets.specs.Ends.{further, Outermost};
+ghost use Rattle.buckets.specs.Spread.{EverSpread};
 ghost use Rattle.buckets.specs.Records.{home, contents, firsts, nexts, spares, Sound, TakenBy, Released, Relinked, Found};
 use crate::end::End;
 use crate::term::NONE;
@@ -178,6 +179,7 @@ pub(crate) fn wipe(slots: &mut [Term])
     ensures sound { λ _. ⌜ Sound (now (slots .exit)) 0 ⌝ }
     ensures long { λ _. ⌜ length (now (slots .exit)) ≡ length (now (slots .entry)) ⌝ }
     ensures means { λ _. ⌜ gather (contents (now (slots .exit))) ≡ [] ⌝ }
+    ensures law { λ _. ⌜ EverSpread ⌝ }
 {
     for k in 0..slots.len() {
         slots[k] = Term {

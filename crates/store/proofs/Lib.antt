@@ -3,3 +3,4 @@ pub mod Halving
 pub mod Shifted
 pub mod Writes
 pub mod Kept
+pub mod Ordered

@@ -5,3 +5,4 @@ pub mod Keys
 pub mod Tables
 pub mod Labelled
 pub mod Rowed
+pub mod Batches

@@ -10,6 +10,7 @@ ghost use Rattle.store.specs.Answers.{Handed, Wrote};
 ghost use Rattle.store.specs.Stores.{Room, fits, StoreLaws};
 use sets::RankSet;
 
+pub mod batch;
 pub mod check;
 pub mod key;
 pub mod labels;

@@ -1,9 +1,10 @@
 // The calls on a bucket table.
 ghost use mathlib.Core.Path.{_≡_};
 ghost use mathlib.Core.List.{[]};
+ghost use Prim.Native.Nat.{_≤_};
 ghost use lib.ListN.{length};
 ghost use Rattle.store.specs.Stores.{atMost, taken};
-ghost use Rattle.buckets.specs.Bucketed.{bucketPoly, bucketRoom, bucket-laws};
+ghost use Rattle.buckets.specs.Bucketed.{bucketPoly, bucketRoom, AlwaysSpread, bucket-laws};
 use crate::bucket::Buckets;
 use crate::end::End;
 use crate::table::Table;
@@ -19,10 +20,21 @@ impl<'a> Buckets<'a> {
     pub fn new(slots: &'a mut [Term]) -> Buckets<'a>
         ensures empty { λ r. ⌜ bucketPoly r ≡ [] ⌝ }
         ensures room { λ r. ⌜ bucketRoom r ≡ atMost (taken 65536 (length (now (slots .entry)))) ⌝ }
+        ensures spread { λ _. ⌜ AlwaysSpread ⌝ }
     {
         let n = slots_taken::<BucketStore>(slots.len());
+        Buckets::over(&mut slots[..n])
+    }
+
+    // An empty table over so many records as a table takes, or none.
+    fn over(slots: &'a mut [Term]) -> Buckets<'a>
+        requires { ⌜ length (now slots) ≤ 65536 ⌝ }
+        ensures empty { λ r. ⌜ bucketPoly r ≡ [] ⌝ }
+        ensures room { λ r. ⌜ bucketRoom r ≡ atMost (length (now (slots .entry))) ⌝ }
+        ensures spread { λ _. ⌜ AlwaysSpread ⌝ }
+    {
         Buckets {
-            table: Table::new(&mut slots[..n]),
+            table: Table::new(slots),
         }
     }
 }

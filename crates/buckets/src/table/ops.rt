@@ -12,6 +12,7 @@ ghost use Rattle.store.specs.Answers.{Handed, Wrote};
 ghost use Rattle.store.specs.Stores.{atMost, fits};
 ghost use Rattle.buckets.specs.Ends.{outmost};
 ghost use Rattle.buckets.specs.Records.{Found};
+ghost use Rattle.buckets.specs.Spread.{EverSpread};
 ghost use Rattle.buckets.specs.Tables.{held, poly, places, Keeps};
 use crate::chains::find;
 use crate::chains::insert;
@@ -31,6 +32,7 @@ impl<'a> Table<'a> {
         ensures empty { λ r. ⌜ poly r ≡ [] ⌝ }
         ensures places { λ r. ⌜ places r ≡ length (now (slots .entry)) ⌝ }
         ensures keeps { λ r. ⌜ Keeps r ⌝ }
+        ensures law { λ _. ⌜ EverSpread ⌝ }
     {
         wipe(slots);
         Table { slots, count: 0 }

@@ -1,6 +1,7 @@
 use mathlib.Core.Path.{refl}
 use native.Mathlib.Omega.{arith}
 use Rattle.buckets.proofs.Wipes.{wiped-start, wiped-more, wiped-means, wiped-sound}
+use Rattle.buckets.proofs.Spreads.{spread}
 use Rattle.buckets.proofs.chains.wipe.Needs as need
 
 pub loop-k-holds : need.loop-k-holds
@@ -13,4 +14,4 @@ pub returns : need.returns
 returns c =
     let w = c .loop-k .inv in
     let l = c .loop-k-test .left in
-    record { sound = wiped-sound _ _ _ w l (c .pre); long = w .long; means = wiped-means _ _ _ w l (c .pre) }
+    record { sound = wiped-sound _ _ _ w l (c .pre); long = w .long; means = wiped-means _ _ _ w l (c .pre); law = spread }
