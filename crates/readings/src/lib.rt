@@ -11,6 +11,8 @@ use kind::field::Field;
 use kind::field::FieldKind;
 use refusal::Refusal;
 
+pub mod stores;
+
 // What the public calls answer to the examples, each field being named as its example.
 #[derive(Clone, Copy, PartialEq, Eq, Debug)]
 pub struct Answers {
