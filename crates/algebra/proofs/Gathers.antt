@@ -1,19 +1,16 @@
 -- Slots that stand in any order: reading one, changing one, the best of them.
 use mathlib.Core.Path.{_≡_, refl, sym, ap, _∙_, subst}
-use mathlib.Core.Bool.{Bool, true, false, cond}
-use mathlib.Core.List.{List, [], _∷_}
-use mathlib.Core.Logic.{_⊎_, inl, inr, _≢_}
-use Prim.Native.Nat.{ℕ, zero, suc, _+_, _<_, _≤_}
+use mathlib.Core.List.{[], _∷_}
+use mathlib.Core.Logic.{inl, inr, _≢_}
+use Prim.Native.Nat.{ℕ, zero, suc, _<_, _≤_}
 use native.Mathlib.Omega.{arith}
-use lib.Dec.{eqb}
 use lib.ListN.{length, getD, set, length-set}
 use Rattle.std.proofs.shelf.Lists.{getD-set-same, getD-set-other}
-use Rattle.std.specs.declared.option.Option.{Option}
-use Rattle.std.specs.declared.option.Option.the-variants.{Some, None}
+use Rattle.std.specs.declared.option.Option.the-variants.{Some}
 use Rattle.std.specs.shelf.Lists.{All}
 use Rattle.std.proofs.shelf.Tests.{eq-eqb, ne-eqb, cases-eq, cases-lt}
-use Rattle.algebra.specs.Poly.{Poly, at, put, lowest, highest, Rising}
-use Rattle.algebra.specs.Gathered.{Slots, setAt, numberAt, gather, Absent, Twice, Apart}
+use Rattle.algebra.specs.Poly.{at, put, lowest, highest, Rising}
+use Rattle.algebra.specs.Gathered.{Slots, setAt, numberAt, gather, Absent, Apart}
 use Rattle.algebra.proofs.Polys.{at-put, rising-put, same-from-at}
 use Rattle.algebra.proofs.Lengths.{length-put-le, lowest-least, highest-most, all-put}
 

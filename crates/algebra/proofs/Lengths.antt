@@ -1,16 +1,13 @@
 -- How many sets stand, and which are the lowest and the highest.
 use mathlib.Core.Path.{_≡_, refl, sym, ap, _∙_}
-use mathlib.Core.Bool.{Bool, true, false, cond}
-use mathlib.Core.List.{List, [], _∷_}
-use mathlib.Core.Logic.{_⊎_, inl, inr}
+use mathlib.Core.List.{[], _∷_}
+use mathlib.Core.Logic.{inl, inr}
 use Prim.Native.Nat.{ℕ, zero, suc, _+_, _<_, _≤_}
 use native.Mathlib.Omega.{arith}
-use lib.Dec.{eqb}
 use lib.ListN.{length}
-use Rattle.std.specs.declared.option.Option.{Option}
-use Rattle.std.specs.declared.option.Option.the-variants.{Some, None}
+use Rattle.std.specs.declared.option.Option.the-variants.{Some}
 use Rattle.std.specs.shelf.Lists.{All}
-use Rattle.std.proofs.shelf.Tests.{eq-eqb, ne-eqb, cases-order, cases-eq, cases-lt}
+use Rattle.std.proofs.shelf.Tests.{eq-eqb, ne-eqb, cases-order, cases-eq}
 use Rattle.algebra.specs.Poly.{Poly, at, front, put, lowest, highest, Above, Rising}
 use Rattle.algebra.proofs.Polys.{put-below, put-here, put-above, at-over, at-first, at-put, above-less, rising-put, same-from-at}
 

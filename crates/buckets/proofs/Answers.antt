@@ -1,15 +1,14 @@
 -- What a table answers.
 use mathlib.Core.Path.{_≡_, refl, sym, ap, _∙_, subst}
-use mathlib.Core.Bool.{Bool, true, false, cond}
+use mathlib.Core.Bool.{true, false}
 use mathlib.Core.List.{List, []}
-use Prim.Native.Nat.{ℕ, _+_, _-_, _<_, _≤_}
+use Prim.Native.Nat.{ℕ, _-_, _≤_}
 use native.Mathlib.Omega.{arith}
 use lib.ListN.{length, getD}
-use Rattle.std.specs.declared.option.Option.{Option}
 use Rattle.std.specs.declared.option.Option.the-variants.{Some, None}
 use Rattle.std.proofs.shelf.Tests.{le-leb, lt-leb}
 use Rattle.algebra.specs.Poly.{Poly, at, put, standing, lowest, highest}
-use Rattle.algebra.specs.Gathered.{Slots, setAt, numberAt, gather, Absent}
+use Rattle.algebra.specs.Gathered.{setAt, numberAt, gather, Absent}
 use Rattle.algebra.proofs.Rows.{length-standing}
 use Rattle.algebra.proofs.Lengths.{put-nothing, length-put, some-0, some-1}
 use Rattle.algebra.proofs.Gathers.{rising-gather, length-gather, at-absent, gather-none, lowest-slot, highest-slot}

@@ -1,17 +1,13 @@
 -- Chains when a slot is freed.
-use mathlib.Core.Path.{_≡_, refl, sym, ap, _∙_, subst}
-use mathlib.Core.List.{List, [], _∷_}
-use mathlib.Core.Logic.{_⊎_, inl, inr, _≢_}
-use Prim.Native.Nat.{ℕ, zero, suc, _+_, _<_, _≤_}
+use mathlib.Core.Path.{_≡_, sym, ap, _∙_, subst}
+use mathlib.Core.Logic.{_≢_}
+use Prim.Native.Nat.{ℕ, suc, _<_}
 use native.Mathlib.Omega.{arith}
 use lib.ListN.{length, getD, set, length-set}
 use Rattle.std.proofs.shelf.Lists.{getD-set-same, getD-set-other}
-use Rattle.std.proofs.shelf.Tests.{cases-eq, cases-lt}
-use Rattle.std.specs.declared.option.Option.{Option}
-use Rattle.std.specs.declared.option.Option.the-variants.{Some, None}
 use Rattle.algebra.specs.Gathered.{Slots, setAt, numberAt}
-use Rattle.buckets.specs.Chains.{Taken, Member}
-use Rattle.buckets.proofs.Leading.{Leads, Firsts, Nexts}
+use Rattle.buckets.specs.Chains.{Member}
+use Rattle.buckets.proofs.Leading.{Leads}
 
 module _ (home : ℕ → ℕ) (ts : Slots) (j : ℕ) (y : ℕ × ℕ) (jl : j < length ts) (gone : y .1 ≡ 0) where
   abbrev us : Slots

@@ -1,11 +1,11 @@
 -- Where each link leads: the facts about the first slot of a bucket, and about the next slot after one, as one.
-use mathlib.Core.Path.{_≡_, refl, sym, ap, _∙_, subst}
+use mathlib.Core.Path.{_≡_, refl, subst}
 use mathlib.Core.List.{List}
 use Prim.Native.Nat.{ℕ, suc, _<_, _≤_}
 use native.Mathlib.Omega.{arith}
 use lib.ListN.{length, getD}
 use Rattle.algebra.specs.Gathered.{Slots, setAt, numberAt}
-use Rattle.buckets.specs.Chains.{Taken, Member, Begins, Goes, Later, FirstHere, FirstLeast, NextAbove, NextHere, NextLeast}
+use Rattle.buckets.specs.Chains.{Taken, Member, FirstHere, FirstLeast, NextAbove, NextHere, NextLeast}
 
 -- i is the first slot of the bucket b from `from` on; where there is none, i is no slot
 abbrev pub Leads : (ℕ → ℕ) → Slots → ℕ → ℕ → ℕ → Type 0

@@ -1,9 +1,9 @@
 -- A scan of the slots for the outermost one.
-use mathlib.Core.Path.{_≡_, refl, sym, ap, _∙_, subst}
+use mathlib.Core.Path.{_≡_, sym, ap, _∙_, subst}
 use mathlib.Core.Bool.{true, false}
-use mathlib.Core.List.{List, []}
-use mathlib.Core.Logic.{_⊎_, inl, inr}
-use Prim.Native.Nat.{ℕ, _+_, _<_, _≤_}
+use mathlib.Core.List.{List}
+use mathlib.Core.Logic.{inl, inr}
+use Prim.Native.Nat.{ℕ, _+_, _<_}
 use native.Mathlib.Omega.{arith}
 use lib.ListN.{length, getD}
 use Rattle.sets.specs.Numbers.{number}
@@ -13,9 +13,7 @@ use Rattle.buckets.proofs.Fields.{set-at, number-at}
 use Rattle.std.specs.declared.option.Option.{Option}
 use Rattle.std.specs.declared.option.Option.the-variants.{Some, None}
 use Rattle.std.proofs.shelf.Tests.{ltb-true, ltb-false, cases-eq}
-use Rattle.algebra.specs.Poly.{lowest, highest}
-use Rattle.algebra.specs.Gathered.{Slots, setAt, numberAt, gather, Apart}
-use Rattle.algebra.proofs.Gathers.{lowest-slot, highest-slot, gather-none}
+use Rattle.algebra.specs.Gathered.{Slots, setAt, numberAt}
 use Rattle.buckets.specs.declared.end.End.{End}
 use Rattle.buckets.specs.declared.end.End.the-variants.{Low, High}
 use Rattle.buckets.specs.Ends.{Beyond, further, Outermost}

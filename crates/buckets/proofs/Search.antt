@@ -1,8 +1,8 @@
 -- Along a chain: what a search for a set, and for a place, keeps.
-use mathlib.Core.Path.{_≡_, refl, sym, ap, _∙_, subst}
+use mathlib.Core.Path.{_≡_, sym, ap, _∙_, subst}
 use mathlib.Core.Bool.{true, false}
 use mathlib.Core.List.{List}
-use Prim.Native.Nat.{ℕ, suc, _-_, _<_, _≤_}
+use Prim.Native.Nat.{ℕ, _-_, _<_, _≤_}
 use native.Mathlib.Omega.{arith}
 use lib.Dec.{eqb}
 use lib.ListN.{length, getD}
@@ -13,8 +13,8 @@ use Rattle.std.specs.Options.{Cases}
 use Rattle.std.specs.declared.option.Option.the-variants.{Some, None}
 use Rattle.algebra.specs.Gathered.{Slots, setAt, numberAt, Absent}
 use Rattle.buckets.specs.declared.term.Term.{Term}
-use Rattle.buckets.specs.Chains.{Taken, Member, Place, After, link, from}
-use Rattle.buckets.proofs.Leading.{Leads, Firsts, Nexts}
+use Rattle.buckets.specs.Chains.{Member, Place, After, link}
+use Rattle.buckets.proofs.Leading.{Firsts, Nexts}
 use Rattle.buckets.specs.Records.{home, contents, firsts, nexts, Found}
 use Rattle.buckets.proofs.Fields.{length-contents, length-firsts, length-nexts, set-at, first-at, next-at}
 use Rattle.buckets.proofs.Linking.{leads}

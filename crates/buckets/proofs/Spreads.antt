@@ -1,8 +1,8 @@
 -- The walk along a chain lists the slots of a bucket.
 use mathlib.Core.Path.{_≡_, refl, sym, ap, ap₂, _∙_, subst}
-use mathlib.Core.Bool.{Bool, true, false, cond, _&&_}
+use mathlib.Core.Bool.{Bool, true, false}
 use mathlib.Core.List.{List, [], _∷_}
-use mathlib.Core.Logic.{_⊎_, inl, inr}
+use mathlib.Core.Logic.{inl, inr}
 use Prim.Native.Nat.{ℕ, zero, suc, _+_, _-_, _<_, _≤_}
 use native.Mathlib.Omega.{arith}
 use lib.Dec.{eqb, ltb}
@@ -12,7 +12,7 @@ use Rattle.std.specs.shelf.Lists.{kept-by}
 use Rattle.std.proofs.shelf.Tests.{cases-eq, cases-lt, cases-bool, lt-ltb, le-ltb, ltb-true, eq-eqb, eqb-true, and-from, and-parts, cond-true, cond-false}
 use Rattle.algebra.specs.Gathered.{setAt, numberAt}
 use Rattle.buckets.specs.declared.term.Term.{Term}
-use Rattle.buckets.specs.Chains.{Taken, Member}
+use Rattle.buckets.specs.Chains.{Member}
 use Rattle.buckets.specs.Records.{home, contents, firsts, nexts, Sound}
 use Rattle.buckets.specs.Spread.{walk, chain, lies, Spread}
 use Rattle.buckets.proofs.Fields.{length-contents}

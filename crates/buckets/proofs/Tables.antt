@@ -1,8 +1,8 @@
 -- A table when a slot is taken, given another number, or freed.
 use mathlib.Core.Path.{_≡_, refl, sym, ap, _∙_, subst}
 use mathlib.Core.List.{List}
-use mathlib.Core.Logic.{_⊎_, inl, inr}
-use Prim.Native.Nat.{ℕ, zero, suc, _+_, _-_, _%_, _^_, _<_, _≤_}
+use mathlib.Core.Logic.{inl, inr}
+use Prim.Native.Nat.{ℕ, suc, _+_, _-_, _^_, _<_, _≤_}
 use native.Mathlib.Omega.{arith}
 use lib.ListN.{length, getD, set, length-set}
 use Rattle.std.specs.declared.option.Option.{Option}
@@ -14,7 +14,7 @@ use Rattle.algebra.specs.Gathered.{Slots, setAt, numberAt, gather, Absent, Apar
 use Rattle.algebra.proofs.Lengths.{some, some-0, some-1, length-put}
 use Rattle.algebra.proofs.Gathers.{rising-gather, length-gather, at-absent, at-stands, Vacant, vacant-free, vacant-found, apart-set, gather-set, slot-same, slot-other}
 use Rattle.buckets.specs.declared.term.Term.{Term}
-use Rattle.buckets.specs.Chains.{Taken, Member, Spares, Distinct, Place, After, from, link, relinkedFirsts, relinkedNexts}
+use Rattle.buckets.specs.Chains.{Spares, Distinct, Place, After, from, link, relinkedFirsts, relinkedNexts}
 use Rattle.buckets.proofs.Leading.{firsts-from, nexts-from, first-here, first-least, next-above, next-here, next-least, Leads, Firsts, Nexts}
 use Rattle.buckets.specs.Records.{home, contents, firsts, nexts, spares, Sound, Found, TakenBy, Released, Relinked}
 use Rattle.buckets.proofs.Fields.{length-contents, length-firsts, length-nexts, length-spares, set-at, number-at, spare-at, contents-set, firsts-kept, nexts-kept, spares-kept}

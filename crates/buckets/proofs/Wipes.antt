@@ -1,7 +1,7 @@
 -- Slots that are freed one after another.
 use mathlib.Core.Path.{_≡_, refl, sym, ap, _∙_, subst}
 use mathlib.Core.List.{List, []}
-use mathlib.Core.Logic.{_⊎_, inl, inr, _≢_}
+use mathlib.Core.Logic.{inl, inr, _≢_}
 use Prim.Native.Nat.{ℕ, _+_, _<_, _≤_}
 use native.Mathlib.Omega.{arith}
 use lib.ListN.{length, getD, set, length-set}
@@ -9,10 +9,9 @@ use Rattle.std.proofs.shelf.Tests.{cases-eq}
 use Rattle.std.proofs.shelf.Lists.{getD-set-same, getD-set-other}
 use Rattle.algebra.specs.Gathered.{numberAt, gather}
 use Rattle.algebra.proofs.Gathers.{gather-none}
-use Rattle.sets.specs.Numbers.{number}
 use Rattle.buckets.specs.declared.term.Term.{Term}
 use Rattle.buckets.specs.Chains.{Taken}
-use Rattle.buckets.specs.Records.{contentOf, contents, firsts, nexts, spares, Sound}
+use Rattle.buckets.specs.Records.{contentOf, contents, firsts, spares, Sound}
 use Rattle.buckets.proofs.Fields.{length-contents, length-firsts, length-spares, contents-set, firsts-set, spares-set}
 
 -- the slots below k are free, their buckets empty, and each is its own spare

@@ -2,7 +2,7 @@
 -- Words: home, contents, firsts, nexts, spares, Sound.
 use mathlib.Core.Path.{_≡_}
 use mathlib.Core.List.{List, map}
-use Prim.Native.Nat.{ℕ, _-_, _%_, _^_, _<_, _≤_}
+use Prim.Native.Nat.{ℕ, _-_, _%_, _<_, _≤_}
 use lib.ListN.{length, set}
 use Rattle.algebra.specs.Rows.{Bounded}
 use Rattle.algebra.specs.Gathered.{Slots, setAt, numberAt, gather, Apart}

@@ -1,13 +1,13 @@
 -- A table's contents by the places of its slots.
 use mathlib.Core.Path.{_≡_, refl, sym, ap, _∙_}
 use mathlib.Core.List.{List}
-use Prim.Native.Nat.{ℕ, suc, _-_, _<_, _≤_}
+use Prim.Native.Nat.{ℕ, _-_, _<_, _≤_}
 use native.Mathlib.Omega.{arith}
 use lib.ListN.{length, getD, take}
 use Rattle.std.specs.declared.option.Option.{Option}
-use Rattle.std.specs.declared.option.Option.the-variants.{Some, None}
+use Rattle.std.specs.declared.option.Option.the-variants.{Some}
 use Rattle.std.proofs.shelf.Lists.{length-take-le, getD-map, getD-take}
-use Rattle.algebra.specs.Poly.{Poly, lowest, highest}
+use Rattle.algebra.specs.Poly.{lowest, highest}
 use Rattle.algebra.proofs.Rows.{length-first, lowest-is, highest-is}
 use Rattle.store.specs.declared.slot.Slot.{Slot}
 use Rattle.store.specs.Answers.{Handed}

@@ -5,7 +5,7 @@ ghost use mathlib.Core.Bool.{false};
 ghost use Prim.Native.Nat.{_≤_, _<_};
 ghost use lib.ListN.{length};
 ghost use Rattle.std.specs.Results.{Cases as ByOk, isOk};
-ghost use Rattle.algebra.specs.Poly.{at, put, lowest as lowestOf, highest as highestOf};
+ghost use Rattle.algebra.specs.Poly.{at, lowest as lowestOf, highest as highestOf};
 ghost use Rattle.algebra.specs.Rows.{StandsAt, FallsAt};
 ghost use Rattle.store.specs.Answers.{Handed, Wrote};
 ghost use Rattle.store.specs.Stores.{atMost, fits};

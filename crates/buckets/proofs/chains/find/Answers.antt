@@ -1,4 +1,3 @@
-use borrow.Author.Needs.{needs}
 use native.Mathlib.Omega.{arith}
 use Rattle.buckets.proofs.Fields.{length-contents}
 use Rattle.buckets.proofs.Sounds.{firsts-of, nexts-of}

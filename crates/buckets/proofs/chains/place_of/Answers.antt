@@ -1,4 +1,3 @@
-use borrow.Author.Needs.{needs}
 use native.Mathlib.Omega.{arith}
 use Rattle.buckets.proofs.Sounds.{firsts-of, nexts-of}
 use Rattle.buckets.proofs.Search.{going-start, going-next, going-less, going-end, going-slot}

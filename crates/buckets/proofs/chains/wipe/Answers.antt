@@ -1,5 +1,4 @@
 use mathlib.Core.Path.{refl}
-use native.Mathlib.Omega.{arith}
 use Rattle.buckets.proofs.Wipes.{wiped-start, wiped-more, wiped-means, wiped-sound}
 use Rattle.buckets.proofs.Spreads.{spread}
 use Rattle.buckets.proofs.chains.wipe.Needs as need

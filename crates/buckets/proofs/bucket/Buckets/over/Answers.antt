@@ -1,8 +1,6 @@
-use borrow.Author.Needs.{needs}
 use mathlib.Core.Path.{ap}
 use denote.Ref.{now}
 use Rattle.store.specs.Stores.{atMost}
-use Rattle.buckets.specs.Tables.{Keeps}
 use Rattle.buckets.proofs.bucket.Buckets.over.Needs as need
 
 pub returns : need.returns
