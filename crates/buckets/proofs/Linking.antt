@@ -9,11 +9,16 @@ use Rattle.std.proofs.shelf.Tests.{cases-eq, cases-lt}
 use Rattle.std.specs.declared.option.Option.{Option}
 use Rattle.std.specs.declared.option.Option.the-variants.{Some, None}
 use Rattle.algebra.specs.Gathered.{Slots, setAt, numberAt}
-use Rattle.buckets.specs.Chains.{Taken, Member, After, link, from, relinkedFirsts, relinkedNexts}
+use Rattle.buckets.specs.Chains.{Taken, Member, After, link, relinkedFirsts, relinkedNexts}
 use Rattle.buckets.proofs.Leading.{Leads, Firsts, Nexts}
 use Rattle.buckets.proofs.Got.{got-same, got-other}
 use Rattle.buckets.proofs.Taking.{taken-keeps, taken-here, taken-next, here as taken-slot, other as taken-other, long as taken-long}
 use Rattle.buckets.proofs.Freeing.{freed-keeps, freed-here, not-freed, other as freed-other, long as freed-long}
+
+-- the slot from which the rest of the chain goes
+abbrev pub from : Option ℕ → ℕ
+from None = 0
+from (Some q) = suc q
 
 -- the place where the slot j stands, which links to i
 pub record At (home : ℕ → ℕ) (ts : Slots) (fs ns : List ℕ) (b j : ℕ) (p : Option ℕ) (i : ℕ) : Type 0 where

@@ -77,7 +77,7 @@ module _ (xs : List Term) (count : ℕ) (s : Sound xs count) (b : ℕ) where
             let here = L .1 (omega (arith, long)) in
             let t : lies xs b i ≡ true = and-from (ltb 0 (numberAt (contents xs) i)) (eqb (home (length xs) (setAt (contents xs) i)) b)
             (lt-ltb 0 (numberAt (contents xs) i) (here .0)) (eq-eqb (home (length xs) (setAt (contents xs) i)) b (here .1)) in
-            let N = nexts-of xs count s i (record { within = omega (arith, long); stands = here .0 }) in
+            let N = nexts-of xs (s .chained) i (record { within = omega (arith, long); stands = here .0 }) in
             let M : Leads (home (length xs)) (contents xs) b (suc i) (getD (nexts xs) i 0) = subst (λ c. Leads (home (length xs)) (contents xs) c (suc i) (getD (nexts xs) i 0)) (here .1) N in
             let o : suc i ≡ i + 1 = omega arith in
             let w : length xs - suc i ≡ from + (length xs - from) - (i + 1) = omega (arith, L .0) in
@@ -92,5 +92,5 @@ module _ (xs : List Term) (count : ℕ) (s : Sound xs count) (b : ℕ) where
 pub spread : (xs : List Term) (count : ℕ) → Sound xs count → Spread xs
 spread xs count s = record {
   once = s .apart;
-  chains = λ b l. walked xs count s b (length xs) 0 (getD (firsts xs) b 0) (firsts-of xs count s b (omega (arith, length-contents xs))) (omega arith) (omega arith) ∙ ap (span (lies xs b) 0) (omega arith);
+  chains = λ b l. walked xs count s b (length xs) 0 (getD (firsts xs) b 0) (firsts-of xs (s .chained) b (omega (arith, length-contents xs))) (omega arith) (omega arith) ∙ ap (span (lies xs b) 0) (omega arith);
 }

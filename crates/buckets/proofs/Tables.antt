@@ -14,14 +14,14 @@ use Rattle.algebra.specs.Gathered.{Slots, setAt, numberAt, gather, Absent, Apar
 use Rattle.algebra.proofs.Lengths.{some, some-0, some-1, length-put}
 use Rattle.algebra.proofs.Gathers.{rising-gather, length-gather, at-absent, at-stands, Vacant, vacant-free, vacant-found, apart-set, gather-set, slot-same, slot-other}
 use Rattle.buckets.specs.declared.term.Term.{Term}
-use Rattle.buckets.specs.Chains.{Spares, Distinct, Place, After, from, link, relinkedFirsts, relinkedNexts}
+use Rattle.buckets.specs.Chains.{Spares, Distinct, Place, After, link, relinkedFirsts, relinkedNexts}
 use Rattle.buckets.proofs.Leading.{firsts-from, nexts-from, first-here, first-least, next-above, next-here, next-least, Leads, Firsts, Nexts}
 use Rattle.buckets.specs.Records.{home, contents, firsts, nexts, spares, Sound, Found, TakenBy, Released, Relinked}
 use Rattle.buckets.proofs.Fields.{length-contents, length-firsts, length-nexts, length-spares, set-at, number-at, spare-at, contents-set, firsts-kept, nexts-kept, spares-kept}
 use native.Mathlib.Nat.{mod-lt}
 use Rattle.sets.specs.Hash.{hash}
 use Rattle.buckets.proofs.Got.{got-same, got-other}
-use Rattle.buckets.proofs.Linking.{leads, taken-firsts, taken-nexts, freed-firsts, freed-nexts}
+use Rattle.buckets.proofs.Linking.{from, leads, taken-firsts, taken-nexts, freed-firsts, freed-nexts}
 use Rattle.buckets.proofs.Renumbering.{renumbered, same-set, stood-too}
 
 -- numbers stay bounded
@@ -50,8 +50,8 @@ lists-of xs count s = record {
   counted = s .counted;
   apart = s .apart;
   bounded = s .bounded;
-  first = firsts-from (home (length xs)) (contents xs) (firsts xs) (s .first-here) (s .first-least);
-  next = nexts-from (home (length xs)) (contents xs) (nexts xs) (s .next-above) (s .next-here) (s .next-least);
+  first = firsts-from (home (length xs)) (contents xs) (firsts xs) (s .chained .first-here) (s .chained .first-least);
+  next = nexts-from (home (length xs)) (contents xs) (nexts xs) (s .chained .next-above) (s .chained .next-here) (s .chained .next-least);
   spare = s .spare;
   distinct = s .distinct;
 }
@@ -241,11 +241,13 @@ sound-from zs count n ts fs ns ss en et ef en′ es L =
       counted = M .counted;
       apart = M .apart;
       bounded = M .bounded;
-      first-here = first-here (home (length zs)) (contents zs) (firsts zs) (M .first);
-      first-least = first-least (home (length zs)) (contents zs) (firsts zs) (M .first) (λ k l. omega (arith, length-contents zs, mod-lt (hash (setAt (contents zs) k)) (some-slots k l)));
-      next-above = next-above (home (length zs)) (contents zs) (nexts zs) (M .next);
-      next-here = next-here (home (length zs)) (contents zs) (nexts zs) (M .next);
-      next-least = next-least (home (length zs)) (contents zs) (nexts zs) (M .next);
+      chained = record {
+        first-here = first-here (home (length zs)) (contents zs) (firsts zs) (M .first);
+        first-least = first-least (home (length zs)) (contents zs) (firsts zs) (M .first) (λ k l. omega (arith, length-contents zs, mod-lt (hash (setAt (contents zs) k)) (some-slots k l)));
+        next-above = next-above (home (length zs)) (contents zs) (nexts zs) (M .next);
+        next-here = next-here (home (length zs)) (contents zs) (nexts zs) (M .next);
+        next-least = next-least (home (length zs)) (contents zs) (nexts zs) (M .next);
+      };
       spare = M .spare;
       distinct = M .distinct;
     }

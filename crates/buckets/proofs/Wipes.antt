@@ -59,11 +59,13 @@ module _ (xs ys : List Term) (k : ℕ) (w : WipedTo xs ys k) (l : length ys ≤ 
         counted = sym (ap length wiped-means);
         apart = λ i j t. let s = t .second in let m = t .within in absurd (omega (arith, all-free j m));
         bounded = λ i m. omega (arith, all-free i m);
-        first-here = λ b h. let f = w .none b (let q = h .within in omega (arith, length-contents xs)) in let q = h .slot in absurd (omega (arith, length-contents xs));
-        first-least = λ k t. none-taken k t;
-        next-above = λ j t. none-taken j t;
-        next-here = λ j h. none-taken j (h .taken);
-        next-least = λ j k h. none-taken j (h .taken);
+        chained = record {
+          first-here = λ b h. let f = w .none b (let q = h .within in omega (arith, length-contents xs)) in let q = h .slot in absurd (omega (arith, length-contents xs));
+          first-least = λ k t. none-taken k t;
+          next-above = λ j t. none-taken j t;
+          next-here = λ j h. none-taken j (h .taken);
+          next-least = λ j k h. none-taken j (h .taken);
+        };
         spare = λ i m.
             let o = w .own i (omega arith) in
             (omega (arith, length-contents xs), ap (numberAt (contents xs)) o ∙ all-free i (omega (arith, length-contents xs)));

@@ -68,11 +68,6 @@ Distinct ss free = (k l : ℕ) → k < l → l < free → getD ss k 0 ≡ getD s
 
 -- ---- a place in a chain: at the front of a bucket, or after one of its slots
 
--- the slot from which the rest of the chain goes
-abbrev pub from : Option ℕ → ℕ
-from None = 0
-from (Some q) = suc q
-
 -- what the link at the place says
 abbrev pub link : List ℕ → List ℕ → ℕ → Option ℕ → ℕ
 link fs ns b None = getD fs b 0

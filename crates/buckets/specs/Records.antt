@@ -1,5 +1,5 @@
 -- What lent records say: the sets and numbers of the slots, and the links.
--- Words: home, contents, firsts, nexts, spares, Sound.
+-- Words: home, contents, firsts, nexts, spares, Chained, Sound; TakenBy, Released, Relinked, Found.
 use mathlib.Core.Path.{_≡_}
 use mathlib.Core.List.{List, map}
 use Prim.Native.Nat.{ℕ, _-_, _%_, _<_, _≤_}
@@ -31,17 +31,21 @@ nexts xs = map (λ (x : Term). x .next) xs
 abbrev pub spares : List Term → List ℕ
 spares xs = map (λ (x : Term). x .spare) xs
 
+-- the chains are in order
+pub record Chained (xs : List Term) : Type 0 where
+  pub first-here : FirstHere (home (length xs)) (contents xs) (firsts xs)
+  pub first-least : FirstLeast (home (length xs)) (contents xs) (firsts xs)
+  pub next-above : NextAbove (contents xs) (nexts xs)
+  pub next-here : NextHere (home (length xs)) (contents xs) (nexts xs)
+  pub next-least : NextLeast (home (length xs)) (contents xs) (nexts xs)
+
 -- what a table over the records xs, with `count` of them not free, keeps
 pub record Sound (xs : List Term) (count : ℕ) : Type 0 where
   pub few : length xs ≤ 65536
   pub counted : count ≡ length (gather (contents xs))
   pub apart : Apart (contents xs)
   pub bounded : Bounded (contents xs)
-  pub first-here : FirstHere (home (length xs)) (contents xs) (firsts xs)
-  pub first-least : FirstLeast (home (length xs)) (contents xs) (firsts xs)
-  pub next-above : NextAbove (contents xs) (nexts xs)
-  pub next-here : NextHere (home (length xs)) (contents xs) (nexts xs)
-  pub next-least : NextLeast (home (length xs)) (contents xs) (nexts xs)
+  pub chained : Chained xs
   pub spare : Spares (contents xs) (spares xs) (length xs - count)
   pub distinct : Distinct (spares xs) (length xs - count)
 

@@ -10,7 +10,7 @@ ghost use Rattle.sets.specs.Numbers.{number};
 ghost use Rattle.buckets.specs.Chains.{Place, link};
 ghost use Rattle.buckets.specs.Ends.{further, Outermost};
 ghost use Rattle.buckets.specs.Spread.{EverSpread};
-ghost use Rattle.buckets.specs.Records.{home, contents, firsts, nexts, spares, Sound, TakenBy, Released, Relinked, Found};
+ghost use Rattle.buckets.specs.Records.{home, contents, firsts, nexts, spares, Chained, Sound, TakenBy, Released, Relinked, Found};
 use crate::end::End;
 use crate::term::NONE;
 use crate::term::Term;
@@ -78,8 +78,8 @@ fn link_at(slots: &[Term], b: usize, before: Option<usize>) -> u32
 }
 
 // The place where the slot j stands in the chain of the bucket b, or would.
-fn place_of(slots: &[Term], count: usize, b: usize, j: usize) -> Option<usize>
-    requires sound { ⌜ Sound (now slots) count ⌝ }
+fn place_of(slots: &[Term], b: usize, j: usize) -> Option<usize>
+    requires chained { ⌜ Chained (now slots) ⌝ }
     requires bucket { ⌜ b < length (now slots) ⌝ }
     requires slot { ⌜ j < length (now slots) ⌝ }
     ensures slot { λ r. ⌜ BySome r (Unit {0}) (λ q. q < length (now (slots .entry))) ⌝ }
@@ -95,8 +95,8 @@ fn place_of(slots: &[Term], count: usize, b: usize, j: usize) -> Option<usize>
 }
 
 // The slot of a set.
-pub(crate) fn find(slots: &[Term], count: usize, set: &RankSet) -> Option<usize>
-    requires sound { ⌜ Sound (now slots) count ⌝ }
+pub(crate) fn find(slots: &[Term], set: &RankSet) -> Option<usize>
+    requires chained { ⌜ Chained (now slots) ⌝ }
     ensures slot { λ r. ⌜ BySome r (Unit {0}) (λ i. i < length (now (slots .entry))) ⌝ }
     ensures found { λ r. ⌜ BySome r (Absent (contents (now (slots .entry))) (number (now («set» .entry)))) (Found (contents (now (slots .entry))) (number (now («set» .entry)))) ⌝ }
 {
@@ -137,7 +137,7 @@ pub(crate) fn insert(slots: &mut [Term], count: usize, set: &RankSet, code: u32)
     let n = slots.len();
     let free = last_spare(slots, count);
     let bucket = home_of(set, n);
-    let before = place_of(slots, count, bucket, free as usize);
+    let before = place_of(slots, bucket, free as usize);
     let next = link_at(slots, bucket, before);
     take(slots, free as usize, set, code, next);
     relink(slots, bucket, before, free);
@@ -167,7 +167,7 @@ pub(crate) fn remove(slots: &mut [Term], count: usize, set: &RankSet, i: usize)
 {
     let n = slots.len();
     let bucket = home_of(set, n);
-    let before = place_of(slots, count, bucket, i);
+    let before = place_of(slots, bucket, i);
     let next = slots[i].next;
     relink(slots, bucket, before, next);
     release(slots, i, n - count);

@@ -56,7 +56,7 @@ impl Table<'_> {
         ensures slot { λ r. ⌜ BySome r (Unit {0}) (λ i. i < places (now (self .entry))) ⌝ }
         ensures found { λ r. ⌜ BySome r (Absent (held (now (self .entry))) (number (now («set» .entry)))) (Found (held (now (self .entry))) (number (now («set» .entry)))) ⌝ }
     {
-        find(&*self.slots, self.count, set)
+        find(&*self.slots, set)
     }
 
     pub(crate) fn read(&self, set: &RankSet) -> u32
