@@ -1,5 +1,8 @@
--- The bucket table as a store.
--- Words: bucketPoly, bucketRoom, AlwaysSpread, bucket-laws.
+-- The bucket table as a store. Assumes nothing.
+--     bucketPoly b   its polynomial
+--     bucketRoom b   as many sets as the table has slots
+--     AlwaysSpread   every table that there is is spread as `Spread` says
+--     bucket-laws    what every store owes
 use mathlib.Core.List.{List, [], _∷_}
 use Prim.Native.Nat.{ℕ, zero, suc, _<_, _^_}
 use native.Mathlib.Omega.{arith}
@@ -22,11 +25,9 @@ use Rattle.buckets.specs.Tables.{held, poly, places}
 abbrev pub bucketPoly : Buckets → Poly
 bucketPoly b = poly (b .table)
 
--- as many sets as the table has slots
 abbrev pub bucketRoom : Buckets → Room
 bucketRoom b = atMost (places (b .table))
 
--- every table that there is is spread as `Spread` says
 abbrev pub AlwaysSpread : Type 0
 AlwaysSpread = (b : Buckets) → Spread (now (b .table .slots))
 

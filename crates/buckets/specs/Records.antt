@@ -1,5 +1,13 @@
--- What lent records say: the sets and numbers of the slots, and the links.
--- Words: home, contents, firsts, nexts, spares, Chained, Sound; TakenBy, Released, Relinked, Found.
+-- What lent records say: the sets and numbers of the slots, and the links. Assumes nothing.
+--     home n S                         the bucket of the set S among n
+--     contents xs                      the sets and numbers; `contentOf` those of one record
+--     firsts xs, nexts xs, spares xs   the links
+--     Chained xs                       the chains are in order
+--     Sound xs count                   what a table over the records xs keeps, `count` of them not being free
+--     TakenBy xs ys i S v x            from xs to ys the slot i was given to the set S with the number v and linked to x, and nothing else changed
+--     Released xs ys i k               from xs to ys the slot i was freed and listed as the spare k, and nothing else changed
+--     Relinked xs ys b p x             from xs to ys the place p of the bucket b was linked to x, and nothing else changed
+--     Found ts S i                     the slot i has the set S
 use mathlib.Core.Path.{_≡_}
 use mathlib.Core.List.{List, map}
 use Prim.Native.Nat.{ℕ, _-_, _%_, _<_, _≤_}
@@ -12,7 +20,6 @@ use Rattle.buckets.specs.declared.term.Term.{Term}
 use Rattle.std.specs.declared.option.Option.{Option}
 use Rattle.buckets.specs.Chains.{FirstHere, FirstLeast, NextAbove, NextHere, NextLeast, Spares, Distinct, relinkedFirsts, relinkedNexts}
 
--- the bucket of the set S among n
 abbrev pub home : ℕ → ℕ → ℕ
 home n S = hash S % n
 
@@ -31,7 +38,6 @@ nexts xs = map (λ (x : Term). x .next) xs
 abbrev pub spares : List Term → List ℕ
 spares xs = map (λ (x : Term). x .spare) xs
 
--- the chains are in order
 pub record Chained (xs : List Term) : Type 0 where
   pub first-here : FirstHere (home (length xs)) (contents xs) (firsts xs)
   pub first-least : FirstLeast (home (length xs)) (contents xs) (firsts xs)
@@ -39,7 +45,6 @@ pub record Chained (xs : List Term) : Type 0 where
   pub next-here : NextHere (home (length xs)) (contents xs) (nexts xs)
   pub next-least : NextLeast (home (length xs)) (contents xs) (nexts xs)
 
--- what a table over the records xs, with `count` of them not free, keeps
 pub record Sound (xs : List Term) (count : ℕ) : Type 0 where
   pub few : length xs ≤ 65536
   pub counted : count ≡ length (gather (contents xs))
@@ -49,7 +54,6 @@ pub record Sound (xs : List Term) (count : ℕ) : Type 0 where
   pub spare : Spares (contents xs) (spares xs) (length xs - count)
   pub distinct : Distinct (spares xs) (length xs - count)
 
--- from xs to ys the slot i was given to the set S with the code v, linked to x, and nothing else changed
 pub record TakenBy (xs ys : List Term) (i S v x : ℕ) : Type 0 where
   pub long : length ys ≡ length xs
   pub contents : contents ys ≡ set (contents xs) i (S, v)
@@ -57,7 +61,6 @@ pub record TakenBy (xs ys : List Term) (i S v x : ℕ) : Type 0 where
   pub nexts : nexts ys ≡ set (nexts xs) i x
   pub spares : spares ys ≡ spares xs
 
--- from xs to ys the slot i was freed and listed as the spare k, and nothing else changed
 pub record Released (xs ys : List Term) (i k : ℕ) : Type 0 where
   pub long : length ys ≡ length xs
   pub contents : contents ys ≡ set (contents xs) i (setAt (contents xs) i, 0)
@@ -65,7 +68,6 @@ pub record Released (xs ys : List Term) (i k : ℕ) : Type 0 where
   pub nexts : nexts ys ≡ nexts xs
   pub spares : spares ys ≡ set (spares xs) k i
 
--- from xs to ys one place of the bucket b was linked to x, and nothing else changed
 pub record Relinked (xs ys : List Term) (b : ℕ) (p : Option ℕ) (x : ℕ) : Type 0 where
   pub long : length ys ≡ length xs
   pub contents : contents ys ≡ contents xs
@@ -73,7 +75,6 @@ pub record Relinked (xs ys : List Term) (b : ℕ) (p : Option ℕ) (x : ℕ) : T
   pub nexts : nexts ys ≡ relinkedNexts (nexts xs) p x
   pub spares : spares ys ≡ spares xs
 
--- the slot i has the set S
 pub record Found (ts : Slots) (S i : ℕ) : Type 0 where
   pub within : i < length ts
   pub stands : 0 < numberAt ts i

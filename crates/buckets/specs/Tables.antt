@@ -1,5 +1,9 @@
--- What a table over lent records means, and what it keeps.
--- Words: held, poly, places, firstSlots, nextSlots, spareSlots, Keeps.
+-- What a table over lent records means, and what it keeps. Assumes nothing.
+--     held t                                    the sets and numbers of its slots
+--     poly t                                    their polynomial
+--     places t                                  how many slots there are
+--     firstSlots t, nextSlots t, spareSlots t   the links
+--     Keeps t                                   what a table keeps: `Sound`
 use mathlib.Core.List.{List}
 use Prim.Native.Nat.{ℕ}
 use denote.Ref.{now}
@@ -9,19 +13,15 @@ use Rattle.algebra.specs.Gathered.{Slots, gather}
 use Rattle.buckets.specs.declared.table.Table.{Table}
 use Rattle.buckets.specs.Records.{contents, firsts, nexts, spares, Sound}
 
--- the sets and numbers of its slots
 abbrev pub held : Table → Slots
 held t = contents (now (t .slots))
 
--- the polynomial of its slots
 abbrev pub poly : Table → Poly
 poly t = gather (held t)
 
--- how many slots it has
 abbrev pub places : Table → ℕ
 places t = length (now (t .slots))
 
--- the links of its slots
 abbrev pub firstSlots : Table → List ℕ
 firstSlots t = firsts (now (t .slots))
 
@@ -31,6 +31,5 @@ nextSlots t = nexts (now (t .slots))
 abbrev pub spareSlots : Table → List ℕ
 spareSlots t = spares (now (t .slots))
 
--- what a table keeps: see `Sound`
 abbrev pub Keeps : Table → Type 0
 Keeps t = Sound (now (t .slots)) (t .count)

@@ -1,5 +1,7 @@
--- The row as a store.
--- Words: rowPoly, rowRoom, row-laws.
+-- The row as a store. Assumes nothing.
+--     rowPoly r   its polynomial
+--     rowRoom r   as many sets as the row has slots
+--     row-laws    what every store owes
 use mathlib.Core.List.{List, [], _∷_, map}
 use Prim.Native.Nat.{ℕ, _<_, _^_}
 use native.Mathlib.Omega.{arith}
@@ -21,7 +23,6 @@ use Rattle.store.specs.declared.row.Row.{Row}
 abbrev pub rowPoly : Row → Poly
 rowPoly r = contents number (r .table)
 
--- as many sets as the row has slots
 abbrev pub rowRoom : Row → Room
 rowRoom r = atMost (r .table .room)
 
