@@ -1,0 +1,3 @@
+pub mod Drained
+pub mod Written
+pub mod Numerals
