@@ -2,6 +2,7 @@
 ghost use mathlib.Core.Path.{_≡_};
 ghost use mathlib.Core.Bool.{true};
 ghost use mathlib.Core.List.{[], map};
+ghost use Rattle.std.specs.declared.option.Option.the-variants.{Some};
 ghost use Rattle.std.specs.Options.{mapped, isSome};
 ghost use Rattle.std.specs.Orderings.{Decides};
 ghost use Rattle.std.specs.Of.Vec.{vec-items};
@@ -108,13 +109,21 @@ pub(crate) fn step_both<R: Store, B: Store>(
     }
 }
 
-// Takes the lowest standing set out of a store.
+// Takes a store's lowest standing set out of it.
+fn clear_lowest<S: Store>(store: &mut S, lowest: &Entry)
+    requires { ⌜ Some (term (now lowest)) ≡ lowestOf (S·Store .poly (now store)) ⌝ }
+    ensures { λ _. ⌜ S·Store .poly (now (store .exit)) ≡ drop 1 (S·Store .poly (now (store .entry))) ⌝ }
+{
+    let _ = store.write(&lowest.set, 0);
+}
+
+// The lowest standing set, which is taken out.
 fn take_lowest<S: Store>(store: &mut S) -> Option<Entry>
     ensures lowest { λ r. ⌜ mapped term r ≡ lowestOf (S·Store .poly (now (store .entry))) ⌝ }
     ensures rest { λ _. ⌜ S·Store .poly (now (store .exit)) ≡ drop 1 (S·Store .poly (now (store .entry))) ⌝ }
 {
     let lowest = lowest_of(store)?;
-    let _ = store.write(&lowest.set, 0);
+    clear_lowest(store, &lowest);
     Some(lowest)
 }
 
