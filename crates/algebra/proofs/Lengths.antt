@@ -59,7 +59,7 @@ put-nothing p S r z =
     (λ R. at-put p S 0 r R ∙ elim (cases-eq S R) [ inl e ↦ rw (eq-eqb S R e, ← e) (sym z) | inr n ↦ rw (ne-eqb S R n) ])
 
 -- ---- the lowest set, and the highest
-above-at : (p : Poly) (S R : ℕ) → Above S p → 0 < at p R → S < R
+pub above-at : (p : Poly) (S R : ℕ) → Above S p → 0 < at p R → S < R
 above-at [] S R a h = absurd (omega arith)
 above-at (t ∷ p) S R a h =
     elim (cases-eq (t .0) R) [ inl e ↦ omega (arith, a .0) | inr n ↦ above-at p S R (a .1) (rw (ne-eqb (t .0) R n) at h) ]

@@ -13,4 +13,5 @@ pub mod Polys
 pub mod Rows
 pub mod Parts
 pub mod Lengths
+pub mod Meanings
 pub mod Gathers

@@ -3,6 +3,7 @@ pub mod Ring
 pub mod Repeated
 pub mod Sets
 pub mod Poly
+pub mod Meaning
 pub mod Rows
 pub mod Parts
 pub mod Gathered

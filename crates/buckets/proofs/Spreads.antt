@@ -10,6 +10,7 @@ use lib.ListN.{length, getD}
 use Rattle.std.specs.Iters.{counting}
 use Rattle.std.specs.shelf.Lists.{kept-by}
 use Rattle.std.proofs.shelf.Tests.{cases-eq, cases-lt, cases-bool, lt-ltb, le-ltb, ltb-true, eq-eqb, eqb-true, and-from, and-parts, cond-true, cond-false}
+use Rattle.algebra.proofs.Gathers.{at-stands, at-absent}
 use Rattle.algebra.specs.Gathered.{setAt, numberAt}
 use Rattle.buckets.specs.declared.term.Term.{Term}
 use Rattle.buckets.specs.Chains.{Member}
@@ -92,5 +93,7 @@ module _ (xs : List Term) (count : ℕ) (s : Sound xs count) (b : ℕ) where
 pub spread : (xs : List Term) (count : ℕ) → Sound xs count → Spread xs
 spread xs count s = record {
   once = s .apart;
+  numbers = λ k t. at-stands (contents xs) (setAt (contents xs) k) k (s .apart) (t .within) (t .stands) refl;
+  others = λ S a. at-absent (contents xs) S a;
   chains = λ b l. walked xs count s b (length xs) 0 (getD (firsts xs) b 0) (firsts-of xs (s .chained) b (omega (arith, length-contents xs))) (omega arith) (omega arith) ∙ ap (span (lies xs b) 0) (omega arith);
 }
