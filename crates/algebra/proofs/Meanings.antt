@@ -1,6 +1,6 @@
 -- What a polynomial's list means.
-use mathlib.Core.Path.{_≡_, refl, sym, ap, _∙_, subst}
-use mathlib.Core.List.{List, [], _∷_}
+use mathlib.Core.Path.{_≡_, refl, ap, _∙_}
+use mathlib.Core.List.{[], _∷_}
 use mathlib.Core.Logic.{inl, inr}
 use Prim.Native.Nat.{ℕ, zero, suc, _<_, _≤_}
 use native.Mathlib.Omega.{arith}
@@ -10,7 +10,7 @@ use Rattle.std.specs.shelf.Lists.{Has}
 use Rattle.std.specs.declared.option.Option.{Option}
 use Rattle.std.specs.declared.option.Option.the-variants.{Some, None}
 use Rattle.std.proofs.shelf.Tests.{eq-eqb, ne-eqb, cases-eq}
-use Rattle.algebra.specs.Poly.{Poly, at, put, standing, lowest, highest, Rising}
+use Rattle.algebra.specs.Poly.{Poly, at, standing, lowest, highest, Rising}
 use Rattle.algebra.specs.Meaning.{Meaning}
 use Rattle.algebra.proofs.Polys.{at-first, at-put, rising-put, same-from-at}
 use Rattle.algebra.proofs.Lengths.{above-at}

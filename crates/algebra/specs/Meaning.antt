@@ -1,7 +1,7 @@
 -- What a polynomial's list means: one number for each set. Assumes nothing.
 --     Meaning   what `at` says of `put`, of the list, and of its ends; and lists with the same numbers are the same
 use mathlib.Core.Path.{_≡_}
-use mathlib.Core.List.{List, []}
+use mathlib.Core.List.{[]}
 use Prim.Native.Nat.{ℕ, _<_, _≤_}
 use Rattle.std.specs.Options.{Cases}
 use Rattle.std.specs.shelf.Lists.{Has}
