@@ -8,6 +8,7 @@ pub mod Repeats
 pub mod Multiples
 pub mod Division
 pub mod Bitsets
+pub mod Spans
 pub mod RankLists
 pub mod Polys
 pub mod Rows

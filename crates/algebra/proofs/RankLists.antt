@@ -1,5 +1,5 @@
 -- The ranks of a set as a rising list.
-use mathlib.Core.Path.{_≡_, refl, sym, ap, ap₂, subst, _∙_}
+use mathlib.Core.Path.{_≡_, ap, subst, _∙_}
 use mathlib.Core.Bool.{true}
 use mathlib.Core.List.{List, [], _∷_}
 use mathlib.Core.Logic.{inl, inr}
@@ -9,43 +9,23 @@ use Rattle.std.specs.Iters.{counting}
 use Rattle.std.specs.shelf.Lists.{kept-by, All, Has}
 use lib.ListN.{length}
 use Rattle.std.proofs.shelf.Elements.{all-weaker}
-use Rattle.std.proofs.shelf.Tests.{cases-eq, cond-true, cond-false, cond-both}
+use Rattle.std.proofs.shelf.Tests.{cases-eq, cond-true, cond-both}
+use Rattle.algebra.proofs.Spans.{span-none, span-next}
 use Rattle.algebra.specs.Sets.{has, NoneFrom, LowestFrom, ranksFrom}
 
 -- the ranks of S among the n numbers from m on
 abbrev span : ℕ → ℕ → ℕ → List ℕ
 span S m n = kept-by (has S) (counting m n)
 
-span-none : (S m n : ℕ) → NoneFrom m S → span S m n ≡ []
-span-none S m zero f = refl
-span-none S m (suc n) f =
-    cond-false (has S m) (m ∷ span S (m + 1) n) (span S (m + 1) n) (f m (omega arith)) ∙ span-none S (m + 1) n (λ k l. f k (omega arith))
-
-span-next : (S m n k : ℕ) → LowestFrom m S k → k < m + n → span S m n ≡ k ∷ span S (k + 1) (m + n - (k + 1))
-span-next S m zero k f l = absurd (omega (arith, f .0))
-span-next S m (suc n) k f l =
-    elim (cases-eq k m) [
-      | inl e ↦
-          let o : n ≡ m + suc n - (k + 1) = omega arith in
-          cond-true (has S m) (m ∷ span S (m + 1) n) (span S (m + 1) n) (ap (has S) (sym e) ∙ f .1)
-          ∙ ap₂ (λ x y. x ∷ span S (x + 1) y) (sym e) o
-      | inr e ↦
-          let g : m < k = omega (arith, f .0, e) in
-          let o : m + 1 + n - (k + 1) ≡ m + suc n - (k + 1) = omega arith in
-          cond-false (has S m) (m ∷ span S (m + 1) n) (span S (m + 1) n) (f .2 m (omega arith) g)
-          ∙ span-next S (m + 1) n k (omega arith, f .1, λ j p q. f .2 j (omega arith) q) (omega arith)
-          ∙ ap (λ x. k ∷ span S (k + 1) x) o
-    ]
-
 pub ranks-none : (S m : ℕ) → NoneFrom m S → ranksFrom m S ≡ []
 unfolding ranksFrom
-ranks-none S m f = span-none S m (512 - m) f
+ranks-none S m f = span-none (has S) m (512 - m) (λ k l _. f k l)
 
 pub ranks-next : (S m k : ℕ) → LowestFrom m S k → k < 512 → ranksFrom m S ≡ k ∷ ranksFrom (k + 1) S
 unfolding ranksFrom
 ranks-next S m k f l =
     let o : m + (512 - m) - (k + 1) ≡ 512 - (k + 1) = omega (arith, f .0) in
-    span-next S m (512 - m) k f (omega (arith, f .0)) ∙ ap (λ x. k ∷ span S (k + 1) x) o
+    span-next (has S) m (512 - m) k (f .0) (omega (arith, f .0)) (f .1) (f .2) ∙ ap (λ x. k ∷ span S (k + 1) x) o
 
 -- ---- what stands in the list
 span-length : (S m n : ℕ) → length (span S m n) ≤ n
