@@ -1,4 +1,6 @@
 // The bucket table: a store whose terms lie in lent records, spread over buckets by their sets and chained within each.
+#![tactic(auto)]
+
 pub mod bucket;
 mod chains;
 mod end;

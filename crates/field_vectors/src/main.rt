@@ -1,4 +1,6 @@
 // Known products in fields of characteristic two, run through the field kind and printed with what they should be.
+#![tactic(auto)]
+
 ghost use Rattle.std.specs.Prelude.{◌≡◌, ◌+◌, ◌-◌, ◌^◌, min, if◌then◌else◌, ◌==◌};
 ghost use Rattle.kind.specs.Field.{field as ring_of_field};
 

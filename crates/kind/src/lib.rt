@@ -1,4 +1,6 @@
 // Kinds of coefficient: commutative rings whose elements, the codes, are numbers of 32 bits.
+#![tactic(auto)]
+
 ghost use Rattle.std.specs.Prelude.{◌≡◌};
 ghost use Rattle.algebra.specs.Ring.{Ring, Lawful};
 ghost use Rattle.kind.specs.Making.{bad_kind};

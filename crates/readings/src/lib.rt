@@ -1,4 +1,6 @@
 // Known examples: what the definitions give, proved as one fact, and what the public calls answer.
+#![tactic(auto)]
+
 ghost use Rattle.std.specs.Prelude.{◌≡◌, Ok};
 ghost use Rattle.kind.specs.Counts.{counts};
 ghost use Rattle.kind.specs.Field.{field};

@@ -1,4 +1,6 @@
 // Refusals: which of the seventeen listed faults a call found, at which place, in which layer.
+#![tactic(auto)]
+
 ghost use Rattle.std.specs.Prelude.{◌≡◌, Some, Decides};
 ghost use Rattle.refusal.specs.Numbers.{number_of, word_of, text_of};
 ghost use Rattle.std.specs.Cmp.Rules.{comparing};

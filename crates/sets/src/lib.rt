@@ -1,4 +1,6 @@
 // Sets of ranks from 0 to 511, as eight words.
+#![tactic(auto)]
+
 ghost use Rattle.sets.specs.Words.{Sized};
 
 pub mod hash;

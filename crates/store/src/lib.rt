@@ -1,4 +1,6 @@
 // Polynomials in lent memory, behind one trait that gives their meaning.
+#![tactic(auto)]
+
 ghost use Rattle.std.specs.Prelude.{◌≡◌, ℕ, [], length, is_ok};
 ghost use Rattle.algebra.specs.Poly.{Poly, at, lowest as lowest_of, highest as highest_of};
 ghost use Rattle.sets.specs.Numbers.{number};

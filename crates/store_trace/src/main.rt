@@ -1,5 +1,7 @@
 // A list of writes from standard input, run over a row and over a bucket table of the same size: each step's answer, and in the end what
 // both hold.
+#![tactic(auto)]
+
 ghost use Rattle.std.specs.Prelude.{◌≡◌, true, false, [], fold, MatchResult, OnOk};
 ghost use Rattle.store.specs.Stores.{takes};
 ghost use Rattle.store.specs.Slots.{bad_slots};

@@ -16,8 +16,8 @@ short a b n sum ha hb e = subst (λ (x : ℕ). x < 2 ^ 15) (sym e) (times_lt 7 7
 pub loop-s-init : goal.loop-s-init
 loop-s-init c = sym (ap (λ (x : ℕ). c.args.a ⊗ x) (div-eq_of_lt c.ranges.b.fits) ∙ times_zero c.args.a)
 
-pub overflow-mul-sum : goal.overflow-mul-sum
-overflow-mul-sum c =
+pub overflow_mul-sum : goal.overflow_mul-sum
+overflow_mul-sum c =
     let l = short c.args.a c.args.b (8 - c.loop-s.s) c.loop-s.sum c.ranges.a.fits c.ranges.b.fits c.loop-s.invariant in
     record { fits = omega (arith, l) }
 

@@ -3,8 +3,8 @@ use Rattle.buckets.proofs.Fields.{next_at}
 use Rattle.buckets.proofs.Tables.{counts, removed}
 use Rattle.buckets.proofs.chains.remove.Goals as goal
 
-pub overflow-sub-n : goal.overflow-sub-n
-overflow-sub-n c = (counts _ _ c.requires.sound _ _ c.requires.found).1
+pub overflow_sub-n : goal.overflow_sub-n
+overflow_sub-n c = (counts _ _ c.requires.sound _ _ c.requires.found).1
 
 pub release-requires : goal.release-requires
 release-requires c =

@@ -24,8 +24,8 @@ less xs r s e =
 pub bounds-self-i : goal.bounds-self-i
 bounds-self-i c = (small c.args.self.now.words c.args.rank c.args.self.now.sized c.requires).0
 
-pub overflow-sub-self : goal.overflow-sub-self
-overflow-sub-self c =
+pub overflow_sub-self : goal.overflow_sub-self
+overflow_sub-self c =
     let f = small c.args.self.now.words c.args.rank c.args.self.now.sized c.requires in
     omega (arith, f.1, f.2)
 

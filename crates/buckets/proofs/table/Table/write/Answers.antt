@@ -6,8 +6,8 @@ use Rattle.buckets.proofs.table.Table.write.Goals as goal
 pub remove-requires : goal.remove-requires
 remove-requires c = let f = c.in-Some.ensures in record { sound = c.requires; slot = f.slot; found = f.found }
 
-pub overflow-sub-self : goal.overflow-sub-self
-overflow-sub-self c = (counts _ _ c.requires _ _ c.in-Some.ensures.found).0
+pub overflow_sub-self : goal.overflow_sub-self
+overflow_sub-self c = (counts _ _ c.requires _ _ c.in-Some.ensures.found).0
 
 pub replace-requires : goal.replace-requires
 replace-requires c = let f = c.in-Some.ensures in let z = c.if-code-eq0.false in record { sound = c.requires; slot = f.slot; found = f.found; some = omega arith }
@@ -25,8 +25,8 @@ insert-requires c =
     let z = c.if-code-eq0-2.false in
     record { sound = c.requires; room = omega (arith, l, λ (e : c.args.self.now.count ≡ length c.args.self.now.slots.now). n e); absent = c.in-None.ensures.found; some = omega (arith, λ (e : c.args.code ≡ 0). z e) }
 
-pub overflow-add-self : goal.overflow-add-self
-overflow-add-self c = let l = count_le _ _ c.requires in let f = c.requires.few in record { fits = omega arith }
+pub overflow_add-self : goal.overflow_add-self
+overflow_add-self c = let l = count_le _ _ c.requires in let f = c.requires.few in record { fits = omega arith }
 
 pub returns-then-code-eq0 : goal.returns-then-code-eq0
 returns-then-code-eq0 c =
