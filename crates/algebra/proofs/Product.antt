@@ -1,5 +1,5 @@
 -- The carry-less product: a commutative ring with bit_xor. Assumes nothing.
-use Rattle.std.proofs.Common.{◌≡◌, ℕ, zero, suc, ◌+◌, ◌*◌, ◌/◌, ◌%◌, ◌^◌, ◌<◌, ◌≤◌, sym, refl, ap, ◌∙◌, ap₂, le_refl, not-suc-le-zero, mul_assoc, mul_comm, one-mul, pow-suc, mul-zero, zero-mul, mul-one, mul-div_cancel, arith}
+use Rattle.std.proofs.Common.{◌≡◌, ℕ, zero, suc, ◌*◌, ◌/◌, ◌%◌, ◌^◌, ◌<◌, ◌≤◌, sym, refl, ap, ◌∙◌, ap₂, le_refl, not-suc-le-zero, mul_assoc, mul_comm, one-mul, pow-suc, mul-zero, zero-mul, mul-one, mul-div_cancel, arith}
 use native.Mathlib.Nat.{mul-mod_left}
 use native.Mathlib.Decide.{le_ind}
 use lib.Arith.{half_le, bin_ind}

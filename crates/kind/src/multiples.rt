@@ -6,8 +6,8 @@ use super::Kind;
 
 // An integer times a code, by sum and negative; 0 at a number that is no code. That this is the multiple is part of the promise.
 pub fn multiple<K: Kind>(kind: &K, times: i32, code: u32) -> u32
-    ensures value { result ≡ multiple_of (ring kind.now) times code }
-    ensures law { Multiples (ring kind.now) }
+    ensures value { result ≡ multiple_of (K.ring kind.now) times code }
+    ensures law { Multiples (K.ring kind.now) }
 {
     let sum = many(kind, times.unsigned_abs(), code);
     if times < 0 { kind.negative(sum) } else { sum }
@@ -15,8 +15,8 @@ pub fn multiple<K: Kind>(kind: &K, times: i32, code: u32) -> u32
 
 // A code taken some times, by doubling.
 fn many<K: Kind>(kind: &K, times: u32, code: u32) -> u32
-    ensures value { result ≡ many_of (ring kind.now) times code }
-    ensures law { Multiples (ring kind.now) }
+    ensures value { result ≡ many_of (K.ring kind.now) times code }
+    ensures law { Multiples (K.ring kind.now) }
 {
     if !kind.is_code(code) {
         return 0;

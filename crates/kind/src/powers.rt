@@ -7,17 +7,17 @@ use super::Kind;
 
 // The base to an exponent, the weight of a position in a word. That exponents add up is part of the promise.
 pub fn base_power<K: Kind>(kind: &K, exponent: u32) -> u32
-    ensures value { result ≡ power_of (ring kind.now) (ring kind.now).base exponent }
-    ensures law { Powers (ring kind.now) }
+    ensures value { result ≡ power_of (K.ring kind.now) (K.ring kind.now).base exponent }
+    ensures law { Powers (K.ring kind.now) }
 {
     power(kind, kind.base(), exponent)
 }
 
 // A code to an exponent, by squaring.
 fn power<K: Kind>(kind: &K, code: u32, exponent: u32) -> u32
-    requires { Code (ring kind.now) code }
-    ensures value { result ≡ power_of (ring kind.now) code exponent }
-    ensures law { Powers (ring kind.now) }
+    requires { Code (K.ring kind.now) code }
+    ensures value { result ≡ power_of (K.ring kind.now) code exponent }
+    ensures law { Powers (K.ring kind.now) }
 {
     let mut product = kind.one();
     let mut square = code;

@@ -1,11 +1,12 @@
 // Refusals: which of the seventeen listed faults a call found, at which place, in which layer.
 #![tactic(auto)]
 
-ghost use Rattle.std.specs.Prelude.{◌≡◌, Some, Decides};
-ghost use Rattle.refusal.specs.Numbers.{number_of, word_of, text_of};
+ghost use Rattle.std.specs.Prelude.{◌≡◌, ◌==◌, Some, Decides};
+ghost use Rattle.std.specs.Cmp.{partial_equiv_from_equiv};
 ghost use Rattle.std.specs.Cmp.Rules.{comparing};
+ghost use Rattle.std.specs.Ordering.{on};
 ghost use Rattle.std.proofs.Common.{rules};
-ghost use Rattle.std.specs.Cmp as Keys;
+ghost use Rattle.refusal.specs.Numbers.{number_of, word_of, text_of};
 
 use std::fmt;
 
@@ -96,11 +97,14 @@ impl Fault {
 
 // Faults are equal where their numbers are.
 impl PartialEq for Fault {
-    ghost equals = { λ x y r. Decides r (x ≡ y) };
+    ghost eq = { on number_of ◌==◌ };
 
-    ghost laws = { Keys.partial_equiv_from_equiv (Prim.search (comparing, rules)) };
+    ghost laws = { partial_equiv_from_equiv (Prim.search (comparing, rules)) };
 
-    fn eq(&self, other: &Fault) -> bool {
+    fn eq(&self, other: &Fault) -> bool
+        ensures numbers { result ≡ (number_of self.now == number_of other.now) }
+        ensures decides { Decides result (self.now ≡ other.now) }
+    {
         self.number() == other.number()
     }
 }

@@ -6,7 +6,7 @@ use Rattle.store_trace.proofs.run_writes.Goals as goal
 pub loop-write-preserved : goal.loop-write-preserved
 loop-write-preserved g c =
     let i = c.loop-write.invariant in
-    let e = c.step-both.ensures in (
+    let e = c.step_both.ensures in (
       written_more _ _ _ _ _ c.args.writes.now c.loop-write.write-index c.write-item.result c.loop-write-test.true (search rules) i.2 i.0 e.row,
       written_more _ _ _ _ _ c.args.writes.now c.loop-write.write-index c.write-item.result c.loop-write-test.true (search rules) i.3 i.1 e.buckets,
       e.same.0 ∙ i.2,

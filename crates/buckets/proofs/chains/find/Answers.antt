@@ -8,7 +8,7 @@ pub returns-then-n-eq0 : goal.returns-then-n-eq0
 returns-then-n-eq0 c = let z = c.if-n-eq0.true in record { slot = tt; found = λ i l. absurd (omega (arith, length_contents c.args.slots.now)) }
 
 pub loop-i-init : goal.loop-i-init
-loop-i-init c = find_start _ _ _ _ (firsts_of _ c.requires.chained) c.home-of.ensures.value c.home-of.ensures.bound
+loop-i-init c = find_start _ _ _ _ (firsts_of _ c.requires.chained) c.home_of.ensures.value c.home_of.ensures.bound
 
 pub returns-then-eq : goal.returns-then-eq
 returns-then-eq c = let l = c.loop-i-test.true in record { slot = l; found = find_here _ _ _ _ c.loop-i.invariant l c.if-eq.ensures }

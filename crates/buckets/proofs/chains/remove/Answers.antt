@@ -16,6 +16,6 @@ release-requires c =
 
 pub returns : goal.returns
 returns c =
-    let w = removed _ _ c.requires.sound _ _ c.requires.found _ _ _ _ c.home-of-bucket.ensures.value c.home-of-bucket.ensures.bound
-    c.place-of-before.ensures.place _ (sym (next_at _ _ _ c.requires.slot)) c.relink.ensures c.release.ensures in
+    let w = removed _ _ c.requires.sound _ _ c.requires.found _ _ _ _ c.home_of-bucket.ensures.value c.home_of-bucket.ensures.bound
+    c.place_of-before.ensures.place _ (sym (next_at _ _ _ c.requires.slot)) c.relink.ensures c.release.ensures in
     record { sound = w.sound; long = w.long; means = w.means }

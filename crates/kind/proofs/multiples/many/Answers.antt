@@ -10,17 +10,17 @@ none e t = subst T (sym e) t
 some : {b : Bool} → true ≡ b → T b
 some e = subst T e tt
 
-pub returns-then-not-is-code : goal.returns-then-not-is-code
-returns-then-not-is-code g c =
+pub returns-then-not-is_code : goal.returns-then-not-is_code
+returns-then-not-is_code g c =
     let k = c.args.kind.now in
     let r = g.K.Kind.ring k in
     let l = g.met.K.Kind.lawful k in
-    record { value = sym (many_outside r l c.args.times c.args.code (none c.if-not-is-code.ensures)); law = multiples r l }
+    record { value = sym (many_outside r l c.args.times c.args.code (none c.if-not-is_code.ensures)); law = multiples r l }
 
 pub loop-rest-init : goal.loop-rest-init
 loop-rest-init g c =
     let k = c.args.kind.now in
-    doubling_starts (sums (g.K.Kind.ring k) (g.met.K.Kind.lawful k).laws) (some c.if-not-is-code.ensures) refl refl
+    doubling_starts (sums (g.K.Kind.ring k) (g.met.K.Kind.lawful k).laws) (some c.if-not-is_code.ensures) refl refl
 
 pub loop-rest-preserved : goal.loop-rest-preserved
 loop-rest-preserved g c =

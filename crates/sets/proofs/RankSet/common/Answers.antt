@@ -3,11 +3,11 @@ use lib.Bits.{bit_and}
 use Rattle.sets.proofs.Worded.{value_wordwise, sized_wordwise, and_blockwise}
 use Rattle.sets.proofs.RankSet.common.Goals as goal
 
-pub invariant-of-result : goal.invariant-of-result
-invariant-of-result c =
+pub invariant_of-result : goal.invariant_of-result
+invariant_of-result c =
     let s = c.args.self.now in
     let t = c.args.other.now in
-    (sized_wordwise bit_and and_blockwise s.words t.words c.loop-i.words s.sized t.sized c.loop-i.invariant.0 (λ k l. c.loop-i.invariant.1 k (omega (arith, s.sized.0))), tt)
+    record { sized = sized_wordwise bit_and and_blockwise s.words t.words c.loop-i.words s.sized t.sized c.loop-i.invariant.0 (λ k l. c.loop-i.invariant.1 k (omega (arith, s.sized.0))) }
 
 pub returns : goal.returns
 returns c =

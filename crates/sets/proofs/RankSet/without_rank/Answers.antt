@@ -29,8 +29,8 @@ overflow_sub-self c =
     let f = small c.args.self.now.words c.args.rank c.args.self.now.sized c.requires in
     omega (arith, f.1, f.2)
 
-pub with-word-requires : goal.with-word-requires
-with-word-requires c = (small c.args.self.now.words c.args.rank c.args.self.now.sized c.requires).0
+pub with_word-requires : goal.with_word-requires
+with_word-requires c = (small c.args.self.now.words c.args.rank c.args.self.now.sized c.requires).0
 
 pub returns : goal.returns
-returns c = ap value c.with-word.ensures ∙ less c.args.self.now.words c.args.rank c.args.self.now.sized c.requires
+returns c = ap value c.with_word.ensures ∙ less c.args.self.now.words c.args.rank c.args.self.now.sized c.requires

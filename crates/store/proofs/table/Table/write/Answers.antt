@@ -18,7 +18,7 @@ returns-then-n-self g c = record {
 
 pub returns-then-value-eq0 : goal.returns-then-value-eq0
 returns-then-value-eq0 g c =
-    let d = granted_removed g.K.Key.number _ _ _ c.requires _ _ _ c.remove-at.new.s (search rules) c.remove-at.ensures.len c.remove-at.ensures.after c.in-Ok.ensures.located c.if-value-eq0.true in
+    let d = granted_removed g.K.Key.number _ _ _ c.requires _ _ _ c.remove_at.new.s (search rules) c.remove_at.ensures.len c.remove_at.ensures.after c.in-Ok.ensures.located c.if-value-eq0.true in
     record { wrote = d.wrote; refused = λ e. absurd (true≢false e); room = refl; sound = d.sound }
 
 pub returns-else-value-eq0 : goal.returns-else-value-eq0
@@ -28,5 +28,5 @@ returns-else-value-eq0 g c =
 
 pub returns-else-n-self : goal.returns-else-n-self
 returns-else-n-self g c =
-    let d = granted_inserted g.K.Key.number _ _ _ c.requires (record { key = c.args.key.now; number = c.args.value }) _ c.insert-at.new.s (search rules) c.if-n-self.false c.insert-at.ensures.len c.insert-at.ensures.after c.in-Err.ensures.located c.if-value-eq0-2.false in
+    let d = granted_inserted g.K.Key.number _ _ _ c.requires (record { key = c.args.key.now; number = c.args.value }) _ c.insert_at.new.s (search rules) c.if-n-self.false c.insert_at.ensures.len c.insert_at.ensures.after c.in-Err.ensures.located c.if-value-eq0-2.false in
     record { wrote = d.wrote; refused = λ e. absurd (true≢false e); room = refl; sound = d.sound }
