@@ -1,5 +1,5 @@
 -- What a table answers.
-use Rattle.std.proofs.Common.{◌≡◌, ℕ, ◌-◌, ◌≤◌, true, false, List, [], length, get_or, Some, None, sym, refl, ap, ◌∙◌, subst, arith}
+use Rattle.std.proofs.Common.{◌≡◌, ℕ, ◌≤◌, true, false, List, [], length, get_or, Some, None, sym, refl, ap, ◌∙◌, subst, arith}
 use Rattle.std.proofs.lemmas.Bool.{le-leb, lt-leb}
 use Rattle.algebra.specs.Poly.{Poly, at, put, standing, lowest, highest}
 use Rattle.algebra.specs.Gathered.{set_at, number_at, gather, Absent}

@@ -7,7 +7,7 @@ use Rattle.algebra.specs.Gathered.{set_at, number_at}
 use Rattle.buckets.specs.declared.term.Term.{Term}
 use Rattle.buckets.specs.Chains.{Member}
 use Rattle.buckets.specs.Records.{home, contents, firsts, nexts, Sound}
-use Rattle.buckets.specs.Spread.{walk, chain, lies, Spread}
+use Rattle.buckets.specs.Spread.{walk, lies, Spread}
 use Rattle.buckets.proofs.Fields.{length_contents}
 use Rattle.buckets.proofs.Leading.{Leads}
 use Rattle.buckets.proofs.Sounds.{firsts_of, nexts_of}

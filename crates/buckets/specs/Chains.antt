@@ -18,7 +18,7 @@
 --     relinked_nexts ns p x       and the next slots
 --     After home ts b j p         the place comes after slots of b that are below the slot j
 --     Place home ts fs ns b j p   p is the place in the chain of b where the slot j stands, or would
-use Rattle.std.specs.Prelude.{◌≡◌, ℕ, suc, ◌<◌, ◌≤◌, List, length, set, Some, None, Option, ◌≢◌, slice_index, slice_index_or, slice_set}
+use Rattle.std.specs.Prelude.{◌≡◌, ℕ, suc, ◌<◌, ◌≤◌, List, length, Some, None, Option, ◌≢◌, slice_index, slice_index_or, slice_set}
 use Rattle.algebra.specs.Gathered.{Slots, set_at, number_at}
 
 pub record Taken (ts : Slots) (k : ℕ) : Type 0 where

@@ -8,7 +8,7 @@
 --     Released xs ys i k               from xs to ys the slot i was freed and listed as the spare k, and nothing else changed
 --     Relinked xs ys b p x             from xs to ys the place p of the bucket b was linked to x, and nothing else changed
 --     Found ts S i                     the slot i has the set S
-use Rattle.std.specs.Prelude.{◌≡◌, ℕ, ◌-◌, ◌%◌, ◌<◌, ◌≤◌, List, map, length, set, Option, slice_set}
+use Rattle.std.specs.Prelude.{◌≡◌, ℕ, ◌-◌, ◌%◌, ◌<◌, ◌≤◌, List, map, length, Option, slice_set}
 use Rattle.algebra.specs.Rows.{Bounded}
 use Rattle.algebra.specs.Gathered.{Slots, set_at, number_at, gather, Apart}
 use Rattle.sets.specs.Numbers.{number}

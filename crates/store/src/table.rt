@@ -24,9 +24,9 @@ impl<'a, K: Key> Table<'a, K> {
     // An empty table that uses the first `room` slots.
     pub(crate) fn new(slots: &'a mut [Slot<K>], room: usize) -> Table<'a, K>
         requires { room ≤ length slots.old }
-        ensures empty { contents number result ≡ [] }
+        ensures empty { contents K.number result ≡ [] }
         ensures room { result.room ≡ room }
-        ensures sound { Sound number result }
+        ensures sound { Sound K.number result }
     {
         Table {
             slots,
@@ -38,26 +38,26 @@ impl<'a, K: Key> Table<'a, K> {
 
 impl<K: Key> Table<'_, K> {
     pub(crate) fn count(&self) -> usize
-        requires { Sound number self.now }
-        ensures { result ≡ length (contents number self.now) }
+        requires { Sound K.number self.now }
+        ensures { result ≡ length (contents K.number self.now) }
     {
         self.len
     }
 
     pub(crate) fn clear(&mut self)
-        requires { Sound number self.old }
-        ensures empty { contents number self.new ≡ [] }
+        requires { Sound K.number self.old }
+        ensures empty { contents K.number self.new ≡ [] }
         ensures room { self.new.room ≡ self.old.room }
-        ensures sound { Sound number self.new }
+        ensures sound { Sound K.number self.new }
     {
         self.len = 0;
     }
 
     // Where the key stands, or else where it would.
     fn find(&self, key: &K) -> Result<usize, usize>
-        requires { Sound number self.now }
+        requires { Sound K.number self.now }
         ensures bound { MatchResult result (λ i. i < self.now.len) (λ i. i ≤ self.now.len) }
-        ensures located { MatchResult result (StandsAt (contents number self.now) (number key.now)) (FallsAt (contents number self.now) (number key.now)) }
+        ensures located { MatchResult result (StandsAt (contents K.number self.now) (K.number key.now)) (FallsAt (contents K.number self.now) (K.number key.now)) }
     {
         let slots = &*self.slots;
         let mut low = 0;
@@ -75,8 +75,8 @@ impl<K: Key> Table<'_, K> {
 
     // The key's number, or 0 where it does not stand.
     pub(crate) fn read(&self, key: &K) -> u32
-        requires { Sound number self.now }
-        ensures { result ≡ at (contents number self.now) (number key.now) }
+        requires { Sound K.number self.now }
+        ensures { result ≡ at (contents K.number self.now) (K.number key.now) }
     {
         match self.find(key) {
             Ok(i) => {
@@ -89,8 +89,8 @@ impl<K: Key> Table<'_, K> {
 
     // The lowest key goes into `place`, and its number is the answer.
     pub(crate) fn lowest(&self, place: &mut K) -> Option<u32>
-        requires { Sound number self.now }
-        ensures { Handed number (lowest_of (contents number self.now)) result place.old place.new }
+        requires { Sound K.number self.now }
+        ensures { Handed K.number (lowest_of (contents K.number self.now)) result place.old place.new }
     {
         if self.len == 0 {
             return None;
@@ -103,8 +103,8 @@ impl<K: Key> Table<'_, K> {
 
     // The highest key goes into `place`, and its number is the answer.
     pub(crate) fn highest(&self, place: &mut K) -> Option<u32>
-        requires { Sound number self.now }
-        ensures { Handed number (highest_of (contents number self.now)) result place.old place.new }
+        requires { Sound K.number self.now }
+        ensures { Handed K.number (highest_of (contents K.number self.now)) result place.old place.new }
     {
         if self.len == 0 {
             return None;
@@ -118,11 +118,11 @@ impl<K: Key> Table<'_, K> {
     // Puts the key with a number, in the place of the number that it had; 0 removes the key. Where there is no room for one more key,
     // nothing changes.
     pub(crate) fn write(&mut self, key: &K, value: u32) -> Result<(), Full>
-        requires { Sound number self.old }
-        ensures wrote { Wrote (fits (at_most self.old.room)) (contents number self.old) (number key.now) value (contents number self.new) (is_ok result) }
+        requires { Sound K.number self.old }
+        ensures wrote { Wrote (fits (at_most self.old.room)) (contents K.number self.old) (K.number key.now) value (contents K.number self.new) (is_ok result) }
         ensures refused { is_ok result ≡ false → self.new ≡ self.old }
         ensures room { self.new.room ≡ self.old.room }
-        ensures sound { Sound number self.new }
+        ensures sound { Sound K.number self.new }
     {
         let n = self.len;
         let slot = Slot {

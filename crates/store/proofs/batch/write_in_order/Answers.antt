@@ -14,7 +14,7 @@ returns-in-Err g c =
 
 pub loop-i-preserved : goal.loop-i-preserved
 loop-i-preserved g c =
-    let w = c.in-default.ensures in
+    let w = c.in_default.ensures in
     midway_more _ _ _ _ _ _ c.loop-i.invariant _ c.index-terms-i.is c.loop-i-test.true _ _ w.wrote w.same
 
 pub returns : goal.returns
