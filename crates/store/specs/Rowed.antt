@@ -4,7 +4,7 @@
 --     row_laws     what every store owes
 use Rattle.std.specs.Prelude.{ℕ, ◌^◌, ◌<◌, List, [], ◌∷◌, map, length, take}
 use Rattle.std.proofs.Common.{arith}
-use Rattle.std.specs.List.{AllByRecursion as All}
+use Rattle.std.specs.List.{AllByRecursion}
 use Rattle.std.proofs.lemmas.Bool.{le-leb, leb-true}
 use Rattle.algebra.specs.Poly.{Poly, standing}
 use Rattle.algebra.proofs.Rows.{rising_from, all_sized, length_first, length_standing}
@@ -24,7 +24,7 @@ abbrev pub row_room : Row → Room
 row_room r = at_most r.table.room
 
 -- each key has ranks below 512
-small_keys : (xs : List (Slot RankSet)) → All (λ (t : ℕ × ℕ). t.0 < 2 ^ 512) (map (term number) xs)
+small_keys : (xs : List (Slot RankSet)) → AllByRecursion (λ (t : ℕ × ℕ). t.0 < 2 ^ 512) (map (term number) xs)
 small_keys [] = tt
 small_keys (x ∷ xs) = (number_lt x.key, small_keys xs)
 

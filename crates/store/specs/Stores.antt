@@ -8,7 +8,7 @@
 --     takes most n          a store that takes up to `most` slots takes n of them
 --     taken most n          how many it works over where n are lent: all, or none where it does not take n
 use Rattle.std.specs.Prelude.{◌≡◌, ℕ, ◌^◌, ◌<◌, ◌≤◌, Bool, true, cond, ◌&&◌, List, [], length, nat_le, nat_lt}
-use Rattle.std.specs.List.{AllByRecursion as All}
+use Rattle.std.specs.List.{AllByRecursion}
 use Rattle.algebra.specs.Poly.{Poly, Rising, standing}
 use Rattle.algebra.specs.Parts.{Part}
 
@@ -23,7 +23,7 @@ Sized t = (t.0 < 2 ^ 512) × (t.1 < 2 ^ 32)
 
 pub record StoreLaws {S : Type 0} (poly : S → Poly) (room : S → Room) : Type 0 where
   pub rising : (s : S) → Rising (poly s)
-  pub sized : (s : S) → All Sized (poly s)
+  pub sized : (s : S) → AllByRecursion Sized (poly s)
   pub held : (s : S) → fits (room s) (poly s) ≡ true
   pub empty : (s : S) → room s [] ≡ true
   pub few : (s : S) (sets : List ℕ) → room s sets ≡ true → length sets ≤ 65536
