@@ -1,4 +1,4 @@
--- Polynomials over the two-element field, as numbers: bit i of a number is the coefficient of X^i, and the sum is bitXor. Assumes nothing.
+-- Polynomials over the two-element field, as numbers: bit i of a number is the coefficient of X^i, and the sum is bit_xor. Assumes nothing.
 --     a ⊗ b                   the product, which has no carries: computed by the binary digits of b
 --     Product m               m is linear in each factor, and takes X^i and X^j to X^(i + j)
 --     ProductLaw              ⊗ is such a product, and every such product is ⊗

@@ -11,7 +11,7 @@
 --     ranks S            the ranks of S, rising
 --     HigherAt r A B     r is the highest rank in which A and B differ, and A has it
 --     Higher A B         A has the highest rank in which A and B differ
---     Membership         what has says of the empty set, of inserted, removed, bitOr and within; and sets with the same ranks are the same
+--     Membership         what has says of the empty set, of inserted, removed, bit_or and within; and sets with the same ranks are the same
 use Rattle.std.specs.Prelude.{◌≡◌, ℕ, ◌-◌, ◌/◌, ◌%◌, ◌^◌, ◌<◌, ◌≤◌, Bool, true, false, cond, not, ◌&&◌, ◌||◌, List, filter, ◌==◌, bit_and, bit_or, nat_lt}
 use Rattle.std.specs.List.{range_with_len}
 

@@ -1,13 +1,12 @@
 // Sets are equal, and are ordered, as their numbers: the higher of two has the highest rank in which they differ.
-ghost use Rattle.std.specs.Prelude.{◌≡◌, ◌<◌, IsSomeAnd, Some, MatchOption, ◌==◌, refl};
+ghost use Rattle.std.specs.Prelude.{◌≡◌, ◌<◌, Some, MatchOption, ◌==◌, refl};
 ghost use Rattle.std.specs.Ordering.{MatchOrdering, nat_cmp};
 ghost use Rattle.algebra.specs.Sets.{Higher};
 ghost use Rattle.sets.specs.Numbers.{number};
 ghost use Rattle.sets.specs.HighWords.{Decisive};
 ghost use Rattle.std.specs.Cmp.Rules.{comparing};
-ghost use Rattle.std.proofs.Common.{rules, arith};
-ghost use Rattle.std.specs.Cmp as Keys;
-ghost use Rattle.std.specs.Cmp.{partial_order_from_agreeing_total};
+ghost use Rattle.std.proofs.Common.{rules};
+ghost use Rattle.std.specs.Cmp.{partial_equiv_from_equiv, partial_order_from_agreeing_total};
 
 use super::{RankSet, WORDS};
 use std::cmp::Ordering;
@@ -38,9 +37,9 @@ impl RankSet {
 }
 
 impl PartialEq for RankSet {
-    ghost eq = { λ a b. (number a == number b) };
+    ghost eq = { λ a b. number a == number b };
 
-    ghost laws = { Keys.partial_equiv_from_equiv (first_of (Prim.search (comparing, rules), Prim.grind (arith, Self.row.coded.inj))) };
+    ghost laws = { partial_equiv_from_equiv (Prim.search (comparing, rules)) };
 
     fn eq(&self, other: &RankSet) -> bool {
         self.compare(other).is_eq()
@@ -48,13 +47,13 @@ impl PartialEq for RankSet {
 }
 
 impl Eq for RankSet {
-    ghost laws = { first_of (Prim.search (comparing, rules), Prim.grind (arith, Self.row.coded.inj)) };
+    ghost laws = { Prim.search (comparing, rules) };
 }
 
 impl PartialOrd for RankSet {
     ghost partial_cmp = { λ a b. Some (nat_cmp (number a) (number b)) };
 
-    ghost laws = { partial_order_from_agreeing_total (λ a b. nat_cmp (number a) (number b)) (first_of (Prim.search (comparing, rules), Prim.grind (arith, Self.row.coded.inj))) (λ _ _. refl) (first_of (Prim.search (comparing, rules), Prim.grind (arith, Self.row.coded.inj))) };
+    ghost laws = { partial_order_from_agreeing_total (λ a b. nat_cmp (number a) (number b)) (Prim.search (comparing, rules)) (λ _ _. refl) (Prim.search (comparing, rules)) };
 
     fn partial_cmp(&self, other: &RankSet) -> Option<Ordering> {
         Some(self.compare(other))
@@ -64,11 +63,11 @@ impl PartialOrd for RankSet {
 impl Ord for RankSet {
     ghost cmp = { λ a b. nat_cmp (number a) (number b) };
 
-    ghost total = { first_of (Prim.search (comparing, rules), Prim.grind (arith, Self.row.coded.inj)) };
+    ghost total = { Prim.search (comparing, rules) };
 
-    ghost matches_partial_cmp = { first_of (Prim.search (comparing, rules), Prim.grind (arith, Self.row.coded.inj)) };
+    ghost matches_partial_cmp = { Prim.search (comparing, rules) };
 
-    ghost matches_eq = { first_of (Prim.search (comparing, rules), Prim.grind (arith, Self.row.coded.inj)) };
+    ghost matches_eq = { Prim.search (comparing, rules) };
 
     fn cmp(&self, other: &RankSet) -> Ordering {
         self.compare(other)
