@@ -18,7 +18,7 @@
 --     relinked_nexts ns p x       and the next slots
 --     After home ts b j p         the place comes after slots of b that are below the slot j
 --     Place home ts fs ns b j p   p is the place in the chain of b where the slot j stands, or would
-use Rattle.std.specs.Prelude.{◌≡◌, ℕ, suc, ◌<◌, ◌≤◌, List, length, Some, None, Option, ◌≢◌, slice_index, slice_index_or, slice_set}
+use Rattle.std.specs.Prelude.{◌≡◌, ℕ, suc, ◌<◌, ◌≤◌, List, length, Some, None, Option, ◌≢◌, slice_index, slice_set}
 use Rattle.algebra.specs.Gathered.{Slots, set_at, number_at}
 
 pub record Taken (ts : Slots) (k : ℕ) : Type 0 where
@@ -33,11 +33,11 @@ pub record Member (home : ℕ → ℕ) (ts : Slots) (b from k : ℕ) : Type 0 wh
 
 pub record Begins (ts : Slots) (fs : List ℕ) (b : ℕ) : Type 0 where
   pub within : b < length ts
-  pub slot : slice_index_or fs b 0 < length ts
+  pub slot : slice_index fs b < length ts
 
 pub record Goes (ts : Slots) (ns : List ℕ) (j : ℕ) : Type 0 where
   pub taken : Taken ts j
-  pub slot : slice_index_or ns j 0 < length ts
+  pub slot : slice_index ns j < length ts
 
 pub record Later (home : ℕ → ℕ) (ts : Slots) (j k : ℕ) : Type 0 where
   pub taken : Taken ts j

@@ -1,5 +1,5 @@
 // Chains of slots inside lent records.
-ghost use Rattle.std.specs.Prelude.{◌≡◌, ◌+◌, ◌-◌, ◌<◌, ◌≤◌, [], length, set, IfSome, MatchOption, slice_index};
+ghost use Rattle.std.specs.Prelude.{◌≡◌, ◌+◌, ◌-◌, ◌<◌, ◌≤◌, [], length, IfSome, MatchOption, slice_index};
 ghost use Rattle.algebra.specs.Poly.{put};
 ghost use Rattle.algebra.specs.Gathered.{Absent, gather};
 ghost use Rattle.sets.specs.Numbers.{number};

@@ -1,5 +1,5 @@
 // The counts kind: integers modulo a power of two.
-ghost use Rattle.std.specs.Prelude.{◌≡◌, ℕ, ◌^◌, MatchResult};
+ghost use Rattle.std.specs.Prelude.{◌≡◌, ◌^◌, MatchResult};
 ghost use Rattle.kind.specs.Counts.{CountsSize, counts as ring_of_counts};
 ghost use Rattle.kind.specs.Making.{bad_kind};
 ghost use Rattle.kind.specs.CountsLaws.{counts_lawful};

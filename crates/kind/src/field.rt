@@ -1,5 +1,5 @@
 // The field kind: polynomials over the two-element field, modulo one of a degree from 2 to 8.
-ghost use Rattle.std.specs.Prelude.{◌≡◌, ℕ, ◌^◌, ◌<◌, ◌≤◌, MatchResult};
+ghost use Rattle.std.specs.Prelude.{◌≡◌, ◌^◌, ◌<◌, ◌≤◌, MatchResult};
 ghost use Rattle.algebra.specs.Gf2.{◌⊗◌, remainder, OnlyRemainder};
 ghost use Rattle.kind.specs.Field.{FieldSize, field as ring_of_field};
 ghost use Rattle.kind.specs.Making.{bad_kind};

@@ -31,7 +31,6 @@ mod tests {
     use super::*;
     use refusal::{Fault, Layer, Refusal};
     use std::process::Abort;
-    use store::Store;
     use store::check::check_slots;
     use store::labels::Labels;
 

@@ -1,5 +1,5 @@
 // Which ranks a set has: the empty set, one rank more or less, two sets as one.
-ghost use Rattle.std.specs.Prelude.{◌≡◌, ◌-◌, ◌%◌, ◌^◌, ◌<◌, true, set, bit_and, bit_or, slice_set};
+ghost use Rattle.std.specs.Prelude.{◌≡◌, ◌-◌, ◌%◌, ◌^◌, ◌<◌, true, bit_and, bit_or, slice_set};
 ghost use Rattle.algebra.specs.Sets.{has, within, inserted, removed, Membership};
 ghost use Rattle.sets.specs.Numbers.{number};
 

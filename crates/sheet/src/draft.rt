@@ -1,6 +1,6 @@
 // A sheet under construction.
 ghost use Rattle.std.specs.Prelude.{◌≡◌, ◌<◌};
-ghost use Rattle.store.specs.Labelled.{labelled, label_room};
+ghost use Rattle.store.specs.Labelled.{label_room};
 
 use crate::open::OpenSheet;
 use store::labels::Labels;

@@ -1,6 +1,6 @@
 // tries
 ghost use Rattle.std.specs.Prelude.{◌≡◌};
-ghost use Rattle.store.specs.Labelled.{labelled, label_room};
+ghost use Rattle.store.specs.Labelled.{label_room};
 ghost use Rattle.sheet.specs.Sheets.{sheet_of, blank as blank_sheet};
 
 use crate::draft::Draft;
