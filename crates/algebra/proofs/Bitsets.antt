@@ -1,60 +1,32 @@
 -- Sets as numbers. Assumes nothing.
-use Rattle.std.proofs.Common.{◌≡◌, ℕ, zero, suc, ◌+◌, ◌-◌, ◌*◌, ◌/◌, ◌%◌, ◌^◌, ◌<◌, ◌≤◌, min, max, Bool, true, false, not, ◌&&◌, ◌||◌, eqb, ltb, ◌⊎◌, sym, refl, ap, ◌∙◌, inl, inr, mod-lt, one-mul, arith, pow_pos, pow_mono, shr-shr}
-use native.Mathlib.Nat.{zero-div, div-eq_of_lt}
+use Rattle.std.proofs.Common.{◌≡◌, ℕ, zero, suc, ◌+◌, ◌-◌, ◌*◌, ◌/◌, ◌%◌, ◌^◌, ◌<◌, ◌≤◌, min, max, Bool, true, false, not, ◌&&◌, ◌||◌, eqb, ltb, ◌⊎◌, ◌≢◌, sym, refl, ap, ◌∙◌, inl, inr, arith, pow_mono, shr-shr}
+use native.Mathlib.Nat.{div-eq_of_lt-le}
 use lib.Arith.{bin_ind}
-use lib.Bits.{bit_and, bit_or, and_shr, or_shr, and_mod, or_mod, and_le_r, or_shifted, shifted_even, shifted_half}
+use Rattle.std.proofs.Math.Bool.{or_comm}
+use Rattle.std.proofs.lemmas.Nat.Bits.{bit_at-lt, bit_at-suc, bit_at-zero, bit_at_and, bit_at_or, bit_at-pow_same, bit_at-pow_other, bit_at_above, same_from_bits}
+use lib.Bits.{bit_and, bit_or, shifted_even, shifted_half}
 use lib.Count.{count_trailing_zeros, under}
-use lib.Pow.{split}
-use Rattle.std.proofs.lemmas.Bool.{eqb-true, eqb-false, eq-eqb, ne_eqb, cases_eq, cases_lt, cases_order, cases_Bool, both_ways, and_from, and_parts, cond-true, cond-false, lt-ltb}
+use Rattle.std.proofs.lemmas.Bool.{eqb-true, eqb-false, eq-eqb, ne_eqb, cases_eq, cases_lt, cases_order, cases_Bool, both_ways, cond-true, cond-false, lt-ltb}
 use Rattle.algebra.specs.Sets.{has, within, inserted, removed, NoneFrom, Highest, Higher, Membership}
-
--- S, which holds r, without r
-abbrev pub without : ℕ → ℕ → ℕ
-without S r = S - 2 ^ r
 
 -- the bit r of S
 abbrev pub bit : ℕ → ℕ → ℕ
 bit S r = S / 2 ^ r % 2
 
-pub bit_lt : (S r : ℕ) → bit S r < 2
-bit_lt S r = omega arith
+bit_lt : (S r : ℕ) → bit S r < 2
+bit_lt = bit_at-lt
 
-digit_and : (x y : ℕ) → x < 2 → y < 2 → bit_and x y ≡ min x y
-digit_and zero y hx hy = omega arith
-digit_and (suc zero) zero hx hy = refl
-digit_and (suc zero) (suc zero) hx hy = refl
-digit_and (suc zero) (suc (suc y)) hx hy = absurd (omega arith)
-digit_and (suc (suc x)) y hx hy = absurd (omega arith)
-
-digit_or : (x y : ℕ) → x < 2 → y < 2 → bit_or x y ≡ max x y
-digit_or zero y hx hy = omega arith
-digit_or (suc zero) zero hx hy = refl
-digit_or (suc zero) (suc zero) hx hy = refl
-digit_or (suc zero) (suc (suc y)) hx hy = absurd (omega arith)
-digit_or (suc (suc x)) y hx hy = absurd (omega arith)
-
-pub bit_of_and : (S A r : ℕ) → bit (bit_and S A) r ≡ min (bit S r) (bit A r)
-bit_of_and S A r = ap (λ x. x % 2) (and_shr S A r) ∙ and_mod (S / 2 ^ r) (A / 2 ^ r) 1 ∙ digit_and (bit S r) (bit A r) (bit_lt S r) (bit_lt A r)
+bit_of_and : (S A r : ℕ) → bit (bit_and S A) r ≡ min (bit S r) (bit A r)
+bit_of_and = bit_at_and
 
 pub bit_of_or : (S A r : ℕ) → bit (bit_or S A) r ≡ max (bit S r) (bit A r)
-bit_of_or S A r = ap (λ x. x % 2) (or_shr S A r) ∙ or_mod (S / 2 ^ r) (A / 2 ^ r) 1 ∙ digit_or (bit S r) (bit A r) (bit_lt S r) (bit_lt A r)
+bit_of_or = bit_at_or
 
--- a number is its bits
-pub bit_half : (S r : ℕ) → bit (S / 2) r ≡ bit S (suc r)
-bit_half S r = ap (λ x. x % 2) (shr-shr S 1 r ∙ ap (λ x. S / 2 ^ x) (omega arith))
+bit_half : (S r : ℕ) → bit (S / 2) r ≡ bit S (suc r)
+bit_half S r = sym (bit_at-suc S r)
 
 pub bit_none : (r : ℕ) → bit 0 r ≡ 0
-bit_none r = ap (λ x. x % 2) (zero-div (2 ^ r))
-
-none_from_bits : (A : ℕ) → ((r : ℕ) → bit A r ≡ 0) → A ≡ 0
-none_from_bits =
-    bin_ind (λ A. ((r : ℕ) → bit A r ≡ 0) → A ≡ 0) (λ h. refl)
-    (λ A ih h. let z = ih (λ r. bit_half A r ∙ h (suc r)) in omega (arith, h 0))
-
-pub same_from_bits : (S A : ℕ) → ((r : ℕ) → bit S r ≡ bit A r) → S ≡ A
-same_from_bits =
-    bin_ind (λ S. (A : ℕ) → ((r : ℕ) → bit S r ≡ bit A r) → S ≡ A) (λ A h. sym (none_from_bits A (λ r. sym (h r) ∙ bit_none r)))
-    (λ S ih A h. let z = ih (A / 2) (λ r. bit_half S r ∙ h (suc r) ∙ sym (bit_half A r)) in omega (arith, h 0))
+bit_none = bit_at-zero
 
 -- ---- S lies within A: each of its ranks is in A
 abbrev pub Within : ℕ → ℕ → Type 0
@@ -74,94 +46,19 @@ same_tests true y f g = sym (f refl)
 same_tests false true f g = g refl
 same_tests false false f g = refl
 
--- a set within A is at most A
-pub within_le : (S A : ℕ) → within S A ≡ true → S ≤ A
-within_le S A e = omega (arith, eqb-true (bit_and S A) S e, and_le_r S A)
-
-pub within_self : (S : ℕ) → within S S ≡ true
-within_self S = bits_within S S (λ r. omega arith)
-
-pub within_none : (A : ℕ) → within 0 A ≡ true
-within_none A = refl
-
-pub within_or : (S R A : ℕ) → within (bit_or S R) A ≡ (within S A && within R A)
-within_or S R A =
-    same_tests (within (bit_or S R) A) (within S A && within R A)
-    (λ e. let h = within_bits (bit_or S R) A e in
-    and_from (within S A) (within R A)
-    (bits_within S A (λ r. omega (arith, bit_of_or S R r, h r)))
-    (bits_within R A (λ r. omega (arith, bit_of_or S R r, h r))))
-    (λ e. let h = and_parts (within S A) (within R A) e in
-    bits_within (bit_or S R) A (λ r. omega (arith, bit_of_or S R r, within_bits S A h.0 r, within_bits R A h.1 r)))
-
--- one rank
-pub bit_here : (n : ℕ) → bit (2 ^ n) n ≡ 1
-bit_here zero = refl
-bit_here (suc n) = sym (bit_half (2 ^ suc n) n) ∙ ap (λ x. bit x n) (omega arith) ∙ bit_here n
-
-pub bit_elsewhere : (n r : ℕ) → (n ≡ r → ⊥) → bit (2 ^ n) r ≡ 0
-bit_elsewhere zero zero h = absurd (h refl)
-bit_elsewhere zero (suc r) h = sym (bit_half 1 r) ∙ bit_none r
-bit_elsewhere (suc n) zero h = omega arith
-bit_elsewhere (suc n) (suc r) h = sym (bit_half (2 ^ suc n) r) ∙ ap (λ x. bit x r) (omega arith) ∙ bit_elsewhere n r (λ e. h (ap suc e))
-
-pub within_one : (n A : ℕ) → within (2 ^ n) A ≡ has A n
-within_one n A =
-    same_tests (within (2 ^ n) A) (has A n)
-    (λ e. eq-eqb (bit A n) 1 (omega (arith, within_bits (2 ^ n) A e n, bit_here n)))
-    (λ e. bits_within (2 ^ n) A (λ r. elim (cases_eq n r) [
-      | inl h ↦ rw (← h) (omega (arith, eqb-true (bit A n) 1 e, bit_here n))
-      | inr h ↦ omega (arith, bit_elsewhere n r h)
-    ]))
-
 -- ---- sets below the rank n
-pub bit_over : (S n : ℕ) → S < 2 ^ n → bit S n ≡ 0
-bit_over S n h = ap (λ x. x % 2) (div-eq_of_lt h)
+-- a number below 2^(n + 1) has the bit n exactly where it is not below 2^n
+pub bit_top : (S n : ℕ) → S < 2 ^ suc n → 2 ^ n ≤ S → bit S n ≡ 1
+bit_top S n h l =
+    let low : 1 * 2 ^ n ≤ S = omega arith in
+    let high : S < (1 + 1) * 2 ^ n = omega arith in
+    ap (λ x. x % 2) (div-eq_of_lt-le (2 ^ n) low high)
 
-pub holds_from : (S n : ℕ) → has S n ≡ true → 2 ^ n ≤ S
-holds_from S n e = elim (cases_lt S (2 ^ n)) [ inl l ↦ absurd (omega (arith, bit_over S n l, eqb-true (bit S n) 1 e)) | inr l ↦ l ]
+pub bit_clear : (S n : ℕ) → S < 2 ^ suc n → (bit S n ≡ 1 → ⊥) → S < 2 ^ n
+bit_clear S n h f = elim (cases_lt S (2 ^ n)) [ inl l ↦ l | inr l ↦ absurd (f (bit_top S n h l)) ]
 
-pub joined : (S n : ℕ) → S < 2 ^ n → bit_or (2 ^ n) S ≡ 2 ^ n + S
-joined S n h = let z = or_shifted 1 n S h in rw (one-mul (2 ^ n)) at z
-
-pub held : (S n : ℕ) → S < 2 ^ suc n → 2 ^ n ≤ S → bit_or (2 ^ n) (without S n) ≡ S
-held S n h l = joined (without S n) n (omega arith) ∙ omega arith
-
-pub within_held : (S n A : ℕ) → S < 2 ^ suc n → has S n ≡ true → within S A ≡ (has A n && within (without S n) A)
-within_held S n A h e =
-    ap (λ x. within x A) (sym (held S n h (holds_from S n e))) ∙ within_or (2 ^ n) (without S n) A
-    ∙ ap (λ x. x && within (without S n) A) (within_one n A)
-
-pub not_held : (S n : ℕ) → S < 2 ^ suc n → has S n ≡ false → S < 2 ^ n
-not_held S n h e = elim (cases_lt S (2 ^ n)) [ inl l ↦ l | inr l ↦ absurd (eqb-false (bit S n) 1 e (top l)) ]
-  where
-    top : 2 ^ n ≤ S → bit S n ≡ 1
-    top l = ap (λ x. bit x n) (sym (held S n h l)) ∙ bit_of_or (2 ^ n) (without S n) n ∙ omega (arith, bit_here n, bit_over (without S n) n (omega arith))
-
--- ---- A and the rank n over it
-pub bit_lit : (A n r : ℕ) → A < 2 ^ n → (n ≡ r → ⊥) → bit (A + 2 ^ n) r ≡ bit A r
-bit_lit A n r h d =
-    ap (λ x. bit x r) (omega (arith, joined A n h)) ∙ bit_of_or (2 ^ n) A r ∙ omega (arith, bit_elsewhere n r d)
-
-pub within_lit : (S A n : ℕ) → A < 2 ^ n → S < 2 ^ n → within S (A + 2 ^ n) ≡ within S A
-within_lit S A n h l =
-    same_tests (within S (A + 2 ^ n)) (within S A)
-    (λ e. bits_within S A (λ r. elim (cases_eq n r) [
-      | inl d ↦ rw (← d) (omega (arith, bit_over S n l))
-      | inr d ↦ omega (arith, bit_lit A n r h d, within_bits S (A + 2 ^ n) e r)
-    ]))
-    (λ e. bits_within S (A + 2 ^ n) (λ r. elim (cases_eq n r) [
-      | inl d ↦ rw (← d) (omega (arith, bit_over S n l))
-      | inr d ↦ omega (arith, bit_lit A n r h d, within_bits S A e r)
-    ]))
-
-pub has_lit : (A n : ℕ) → A < 2 ^ n → has (A + 2 ^ n) n ≡ true
-has_lit A n h =
-    eq-eqb (bit (A + 2 ^ n) n) 1
-    (ap (λ x. bit x n) (omega (arith, joined A n h)) ∙ bit_of_or (2 ^ n) A n ∙ omega (arith, bit_here n, bit_over A n h))
-
-pub has_over : (A n : ℕ) → A < 2 ^ n → has A n ≡ false
-has_over A n h = ne_eqb (bit A n) 1 (λ e. omega (arith, bit_over A n h))
+has_over : (S n : ℕ) → S < 2 ^ n → has S n ≡ false
+has_over S n h = ne_eqb (bit S n) 1 (λ e. omega (arith, bit_at_above S n n h (omega arith)))
 
 -- ---- parts of a number
 pub bit_shifted : (q w j : ℕ) → j < w → bit (q * 2 ^ w) j ≡ 0
@@ -170,7 +67,7 @@ bit_shifted q (suc w) zero h = omega (arith, shifted_even q w)
 bit_shifted q (suc w) (suc j) h = sym (bit_half (q * 2 ^ suc w) j) ∙ ap (λ x. bit x j) (shifted_half q w) ∙ bit_shifted q w j (omega arith)
 
 pub bit_part : (S r : ℕ) → bit S r ≡ 1 → 2 ^ r ≤ S
-bit_part S r e = elim (cases_lt S (2 ^ r)) [ inl l ↦ absurd (omega (arith, bit_over S r l)) | inr l ↦ l ]
+bit_part S r e = elim (cases_lt S (2 ^ r)) [ inl l ↦ absurd (omega (arith, bit_at_above S r r l (omega arith))) | inr l ↦ l ]
 
 pub bit_from : (S m k : ℕ) → bit (S / 2 ^ m) k ≡ bit S (m + k)
 bit_from S m k = ap (λ x. x % 2) (shr-shr S m k)
@@ -205,23 +102,12 @@ same_from_has S A f = same_from_bits S A (λ r. digit (bit S r) (bit A r) (bit_l
 pub none_zero : (S : ℕ) → NoneFrom 0 S → S ≡ 0
 none_zero S f = same_from_has S 0 (λ r. f r (omega arith) ∙ sym (not_has 0 r (bit_none r)))
 
-pub none_lt : (S n : ℕ) → NoneFrom n S → S < 2 ^ n
-none_lt S n f =
-    let z : S / 2 ^ n ≡ 0 = none_zero (S / 2 ^ n) (λ k h. ap (λ b. eqb b 1) (bit_from S n k) ∙ f (n + k) (omega arith)) in
-    let s = split S n in
-    let m = mod-lt S (pow_pos n) in
-    let t : S / 2 ^ n * 2 ^ n ≡ 0 = ap (λ q. q * 2 ^ n) z ∙ omega arith in
-    omega arith
-
 -- ---- the highest rank
 pub top_highest : (S r : ℕ) → 2 ^ r ≤ S → S < 2 ^ suc r → Highest S r
 top_highest S r l h = (
-  elim (cases_Bool (has S r)) [ inl e ↦ e | inr e ↦ absurd (omega (arith, not_held S r h e)) ],
+  elim (cases_Bool (has S r)) [ inl e ↦ e | inr e ↦ absurd (eqb-false (bit S r) 1 e (bit_top S r h l)) ],
   λ k g. has_past S (suc r) k h (omega arith),
 )
-
-pub highest_top : (S r : ℕ) → Highest S r → (2 ^ r ≤ S) × (S < 2 ^ suc r)
-highest_top S r h = (holds_from S r h.0, none_lt S (suc r) (λ k l. h.1 k (omega arith)))
 
 -- ---- the lowest bit
 pub trailing_here : (w n : ℕ) → 0 < n → n < 2 ^ w → (count_trailing_zeros w n < w) × (bit n (count_trailing_zeros w n) ≡ 1) × ((k : ℕ) → k < count_trailing_zeros w n → bit n k ≡ 0)
@@ -300,19 +186,13 @@ has_none k = not_has 0 k (bit_none k)
 pub has_one : (r k : ℕ) → has (2 ^ r) k ≡ eqb k r
 has_one r k =
     elim (cases_eq k r) [
-      | inl e ↦ rw e (eq-eqb (bit (2 ^ r) r) 1 (bit_here r) ∙ sym (eq-eqb r r refl))
-      | inr e ↦ not_has (2 ^ r) k (bit_elsewhere r k (λ f. e (sym f))) ∙ sym (ne_eqb k r e)
+      | inl e ↦ rw e (eq-eqb (bit (2 ^ r) r) 1 (bit_at-pow_same r) ∙ sym (eq-eqb r r refl))
+      | inr e ↦ not_has (2 ^ r) k (let n : k ≢ r = e in bit_at-pow_other r k n) ∙ sym (ne_eqb k r e)
     ]
-
-or_turned : (x y : Bool) → (x || y) ≡ (y || x)
-or_turned true true = refl
-or_turned true false = refl
-or_turned false true = refl
-or_turned false false = refl
 
 pub has_inserted : (S r k : ℕ) → r < 512 → has (inserted S r) k ≡ (eqb k r || has S k)
 has_inserted S r k l =
-    ap (λ x. has x k) (cond-true (ltb r 512) (bit_or S (2 ^ r)) S (lt-ltb r 512 l)) ∙ has_or S (2 ^ r) k ∙ ap (λ x. has S k || x) (has_one r k) ∙ or_turned (has S k) (eqb k r)
+    ap (λ x. has x k) (cond-true (ltb r 512) (bit_or S (2 ^ r)) S (lt-ltb r 512 l)) ∙ has_or S (2 ^ r) k ∙ ap (λ x. has S k || x) (has_one r k) ∙ or_comm (has S k) (eqb k r)
 
 -- a rank taken away
 less_here : (r S : ℕ) → bit S r ≡ 1 → bit (S - 2 ^ r) r ≡ 0

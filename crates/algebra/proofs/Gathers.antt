@@ -3,7 +3,7 @@ use Rattle.std.proofs.Common.{◌≡◌, ℕ, zero, suc, ◌<◌, ◌≤◌, ◌
 use Rattle.std.proofs.lemmas.List.{get_or-set_same, get_or-set_other}
 use Rattle.std.specs.List.{AllByRecursion as All}
 use Rattle.std.proofs.lemmas.Bool.{eq-eqb, ne_eqb, cases_eq, cases_lt}
-use Rattle.algebra.specs.Poly.{at, put, lowest, highest, Rising}
+use Rattle.algebra.specs.Poly.{Poly, at, put, lowest, highest, Rising}
 use Rattle.algebra.specs.Gathered.{Slots, set_at, number_at, gather, Absent, Apart}
 use Rattle.algebra.proofs.Polys.{at_put, rising_put, same_from_at}
 use Rattle.algebra.proofs.Lengths.{length_put_le, lowest_least, highest_most, all_put}
@@ -14,29 +14,26 @@ gather_free_one t ts z = rw (eq-eqb t.1 0 z)
 gather_one : (t : ℕ × ℕ) (ts : Slots) → (t.1 ≡ 0 → ⊥) → gather (t ∷ ts) ≡ put (gather ts) t.0 t.1
 gather_one t ts z = rw (ne_eqb t.1 0 z)
 
+-- what holds of slots in both cases of the first
+gather_cases : (P : Poly → Type 0) (t : ℕ × ℕ) (ts : Slots) → P (gather ts) → ((t.1 ≡ 0 → ⊥) → P (put (gather ts) t.0 t.1)) → P (gather (t ∷ ts))
+gather_cases P t ts free some =
+    elim (cases_eq t.1 0) [ inl z ↦ rw (gather_free_one t ts z) free | inr z ↦ rw (gather_one t ts z) (some z) ]
+
 pub rising_gather : (ts : Slots) → Rising (gather ts)
 rising_gather [] = tt
-rising_gather (t ∷ ts) =
-    elim (cases_eq t.1 0) [
-      | inl z ↦ rw (gather_free_one t ts z) (rising_gather ts)
-      | inr z ↦ rw (gather_one t ts z) (rising_put (gather ts) t.0 t.1 (rising_gather ts))
-    ]
+rising_gather (t ∷ ts) = gather_cases Rising t ts (rising_gather ts) (λ _. rising_put (gather ts) t.0 t.1 (rising_gather ts))
 
 pub length_gather : (ts : Slots) → length (gather ts) ≤ length ts
 length_gather [] = omega arith
 length_gather (t ∷ ts) =
-    elim (cases_eq t.1 0) [
-      | inl z ↦ rw (gather_free_one t ts z) (omega (arith, length_gather ts))
-      | inr z ↦ rw (gather_one t ts z) (omega (arith, length_gather ts, length_put_le (gather ts) t.0 t.1 (rising_gather ts)))
-    ]
+    gather_cases (λ p. length p ≤ length (t ∷ ts)) t ts (omega (arith, length_gather ts))
+    (λ _. omega (arith, length_gather ts, length_put_le (gather ts) t.0 t.1 (rising_gather ts)))
 
 pub gather_all : (P : ℕ × ℕ → Type 0) (ts : Slots) → ((i : ℕ) → i < length ts → 0 < number_at ts i → P (set_at ts i, number_at ts i)) → All P (gather ts)
 gather_all P [] h = tt
 gather_all P (t ∷ ts) h =
-    elim (cases_eq t.1 0) [
-      | inl z ↦ rw (gather_free_one t ts z) (gather_all P ts (λ i l. h (suc i) (omega arith)))
-      | inr z ↦ rw (gather_one t ts z) (all_put P (gather ts) t.0 t.1 (h 0 (omega arith) (omega arith)) (gather_all P ts (λ i l. h (suc i) (omega arith))))
-    ]
+    let rest = gather_all P ts (λ i l. h (suc i) (omega arith)) in
+    gather_cases (All P) t ts rest (λ z. all_put P (gather ts) t.0 t.1 (h 0 (omega arith) (omega arith)) rest)
 
 -- ---- reading
 front_same : (t : ℕ × ℕ) (ts : Slots) (q : ℕ) → 0 < t.1 → t.0 ≡ q → at (gather (t ∷ ts)) q ≡ t.1
@@ -44,10 +41,8 @@ front_same t ts q h e = rw (gather_one t ts (λ z. omega arith), at_put (gather 
 
 front_other : (t : ℕ × ℕ) (ts : Slots) (q : ℕ) → (0 < t.1 → t.0 ≡ q → ⊥) → at (gather (t ∷ ts)) q ≡ at (gather ts) q
 front_other t ts q not =
-    elim (cases_eq t.1 0) [
-      | inl z ↦ rw (gather_free_one t ts z)
-      | inr z ↦ rw (gather_one t ts z, at_put (gather ts) t.0 t.1 (rising_gather ts) q, ne_eqb t.0 q (not (omega arith)))
-    ]
+    gather_cases (λ p. at p q ≡ at (gather ts) q) t ts refl
+    (λ z. rw (at_put (gather ts) t.0 t.1 (rising_gather ts) q, ne_eqb t.0 q (not (omega arith))))
 
 pub at_absent : (ts : Slots) (q : ℕ) → Absent ts q → at (gather ts) q ≡ 0
 at_absent [] q h = refl

@@ -1,22 +1,15 @@
 -- The laws of a ring pass to the ring that answers 0 outside of its codes. Assumes nothing.
-use Rattle.std.proofs.Common.{◌≡◌, ℕ, Bool, true, false, cond, T, sym, refl, ap, ◌∙◌, subst, ap₂}
+use Rattle.std.proofs.Common.{◌≡◌, ℕ, Bool, true, false, ◌&&◌, cond, sym, refl, ap, ◌∙◌, subst, ap₂}
+use Rattle.std.proofs.lemmas.Bool.{and_parts}
 use Rattle.algebra.specs.Ring.{Ring, Code, Laws, Lawful, on_codes, guarded}
 
-cond_in : (b : Bool) (x : ℕ) → T b → cond b x 0 ≡ x
-cond_in true x t = refl
-cond_in false x t = absurd t
-
-cond_out : (b : Bool) (x : ℕ) → (T b → ⊥) → cond b x 0 ≡ 0
-cond_out true x f = absurd (f tt)
+cond_out : (b : Bool) (x : ℕ) → (b ≡ true → ⊥) → cond b x 0 ≡ 0
+cond_out true x f = absurd (f refl)
 cond_out false x f = refl
 
-conds_out : (b c : Bool) (x : ℕ) → (T b × T c → ⊥) → cond b (cond c x 0) 0 ≡ 0
-conds_out true c x f = cond_out c x (λ t. f (tt, t))
-conds_out false c x f = refl
-
 module _ (is : ℕ → Bool) (f : ℕ → ℕ → ℕ) where
-  pub inside : (a b : ℕ) → T (is a) → T (is b) → on_codes is f a b ≡ f a b
-  inside a b s t = cond_in (is a) (cond (is b) (f a b) 0) s ∙ cond_in (is b) (f a b) t
+  pub inside : (a b : ℕ) → is a ≡ true → is b ≡ true → on_codes is f a b ≡ f a b
+  inside a b s t = rw (s, t)
 
 module _ (r : Ring) (l : Laws r) where
   sum_in : (a b : ℕ) → Code r a → Code r b → (guarded r).sum a b ≡ r.sum a b
@@ -26,7 +19,7 @@ module _ (r : Ring) (l : Laws r) where
   product_in = inside r.code r.product
 
   negative_in : (a : ℕ) → Code r a → (guarded r).negative a ≡ r.negative a
-  negative_in a s = cond_in (r.code a) (r.negative a) s
+  negative_in a s = rw s
 
   coded : {x y : ℕ} → x ≡ y → Code r y → Code r x
   coded e t = subst (Code r) (sym e) t
@@ -68,7 +61,7 @@ module _ (r : Ring) (l : Laws r) where
   pub guarded_lawful : Lawful (guarded r)
   guarded_lawful = record {
     laws = guarded_laws;
-    sum_outside = λ a b f. conds_out (r.code a) (r.code b) (r.sum a b) f;
+    sum_outside = λ a b f. cond_out (r.code a && r.code b) (r.sum a b) (λ e. f (and_parts _ _ e));
     negative_outside = λ a f. cond_out (r.code a) (r.negative a) f;
-    product_outside = λ a b f. conds_out (r.code a) (r.code b) (r.product a b) f;
+    product_outside = λ a b f. cond_out (r.code a && r.code b) (r.product a b) (λ e. f (and_parts _ _ e));
   }

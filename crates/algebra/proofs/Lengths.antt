@@ -1,9 +1,9 @@
 -- How many sets stand, and which are the lowest and the highest.
 use Rattle.std.proofs.Common.{◌≡◌, ℕ, zero, suc, ◌+◌, ◌<◌, ◌≤◌, [], ◌∷◌, length, Some, sym, refl, ap, ◌∙◌, inl, inr, arith}
 use Rattle.std.specs.List.{AllByRecursion as All}
-use Rattle.std.proofs.lemmas.Bool.{eq-eqb, ne_eqb, cases_order, cases_eq}
+use Rattle.std.proofs.lemmas.Bool.{eq-eqb, ne_eqb, cases_eq}
 use Rattle.algebra.specs.Poly.{Poly, at, front, put, lowest, highest, Above, Rising}
-use Rattle.algebra.proofs.Polys.{put_below, put_here, put_above, at_over, at_first, at_put, above_less, rising_put, same_from_at}
+use Rattle.algebra.proofs.Polys.{put_cases, at_over, at_first, at_put, above_less, rising_put, same_from_at}
 
 -- 1 where a number is not 0
 abbrev pub some : ℕ → ℕ
@@ -25,19 +25,14 @@ length_front S (suc v) p = omega arith
 pub length_put : (p : Poly) (S v : ℕ) → Rising p → length (put p S v) + some (at p S) ≡ length p + some v
 length_put [] S v r = omega (arith, length_front S v [])
 length_put (t ∷ p) S v r =
-    elim (cases_order S t.0) [
-      | inl e ↦
-          let a : at (t ∷ p) S ≡ t.1 = ap (at (t ∷ p)) e ∙ at_first t p in
-          let o = some_1 (at (t ∷ p) S) (omega (arith, r.0)) in
-          rw (put_here t p S v e) (omega (arith, length_front S v p))
-      | inr (inl l) ↦
-          let o = some_0 (at (t ∷ p) S) (at_over (t ∷ p) S (l, above_less p S t.0 (omega arith) r.1)) in
-          rw (put_below t p S v l) (omega (arith, length_front S v (t ∷ p)))
-      | inr (inr l) ↦
-          let a : at (t ∷ p) S ≡ at p S = rw (ne_eqb t.0 S (λ e. omega arith)) in
-          let o = ap some a in
-          rw (put_above t p S v l) (omega (arith, length_put p S v r.2))
-    ]
+    put_cases (λ q. length q + some (at (t ∷ p) S) ≡ length (t ∷ p) + some v) t p S v
+    (λ e.
+    let a : at (t ∷ p) S ≡ t.1 = ap (at (t ∷ p)) e ∙ at_first t p in
+    omega (arith, length_front S v p, some_1 (at (t ∷ p) S) (omega (arith, r.0))))
+    (λ l. omega (arith, length_front S v (t ∷ p), some_0 (at (t ∷ p) S) (at_over (t ∷ p) S (l, above_less p S t.0 (omega arith) r.1))))
+    (λ l.
+    let a : at (t ∷ p) S ≡ at p S = rw (ne_eqb t.0 S (λ e. omega arith)) in
+    omega (arith, length_put p S v r.2, ap some a))
 
 pub length_put_le : (p : Poly) (S v : ℕ) → Rising p → length (put p S v) ≤ length p + 1
 length_put_le p S v r = go v refl
@@ -97,8 +92,4 @@ all_front P S (suc v) p h a = (h, a)
 pub all_put : (P : ℕ × ℕ → Type 0) (p : Poly) (S v : ℕ) → P (S, v) → All P p → All P (put p S v)
 all_put P [] S v h a = all_front P S v [] h a
 all_put P (t ∷ p) S v h a =
-    elim (cases_order S t.0) [
-      | inl e ↦ rw (put_here t p S v e) (all_front P S v p h a.1)
-      | inr (inl l) ↦ rw (put_below t p S v l) (all_front P S v (t ∷ p) h a)
-      | inr (inr l) ↦ rw (put_above t p S v l) (a.0, all_put P p S v h a.1)
-    ]
+    put_cases (All P) t p S v (λ _. all_front P S v p h a.1) (λ _. all_front P S v (t ∷ p) h a) (λ _. (a.0, all_put P p S v h a.1))

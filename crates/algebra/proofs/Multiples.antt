@@ -2,8 +2,8 @@
 use Rattle.std.proofs.Common.{◌≡◌, ℕ, zero, suc, cond, ℤ, pos, negsuc, ◌+ℤ◌, sym, refl, ap, ◌∙◌, subst, ap₂, zero-le, le-ltb}
 use lib.IntN.{suc_ℤ, pred_ℤ, suc-pred, +ℤ_idl, suc_ℤ-+ℤ, pred_ℤ-+ℤ}
 use Rattle.algebra.specs.Ring.{Ring, Code, Laws, Lawful}
-use Rattle.algebra.specs.Repeated.{many, multiple, Multiples, Powers}
-use Rattle.algebra.proofs.Repeats.{Monoid, repeated_in, repeated_add}
+use Rattle.algebra.specs.Repeated.{Monoid, many, multiple, Multiples, Powers}
+use Rattle.algebra.proofs.Repeats.{repeated_in, repeated_add}
 
 -- the multiple by cases on the integer
 abbrev by_sign : Ring → ℤ → ℕ → ℕ

@@ -13,6 +13,16 @@ put_here t p S v h = rw (le-ltb S t.0 (omega arith), eq-eqb S t.0 h)
 pub put_above : (t : ℕ × ℕ) (p : Poly) (S v : ℕ) → t.0 < S → put (t ∷ p) S v ≡ t ∷ put p S v
 put_above t p S v h = rw (le-ltb S t.0 (omega arith), ne_eqb S t.0 (λ e. omega arith))
 
+-- what holds of a write in each of its three cases
+pub put_cases : (P : Poly → Type 0) (t : ℕ × ℕ) (p : Poly) (S v : ℕ) → (S ≡ t.0 → P (front S v p)) → (S < t.0 → P (front S v (t ∷ p)))
+    → (t.0 < S → P (t ∷ put p S v)) → P (put (t ∷ p) S v)
+put_cases P t p S v here below above =
+    elim (cases_order S t.0) [
+      | inl e ↦ rw (put_here t p S v e) (here e)
+      | inr (inl l) ↦ rw (put_below t p S v l) (below l)
+      | inr (inr l) ↦ rw (put_above t p S v l) (above l)
+    ]
+
 -- ---- reading
 pub at_over : (p : Poly) (S : ℕ) → Above S p → at p S ≡ 0
 at_over [] S h = refl
@@ -29,11 +39,10 @@ above_less (t ∷ p) S R l h = (omega arith, above_less p S R l h.1)
 pub at_put : (p : Poly) (S v : ℕ) → Rising p → (R : ℕ) → at (put p S v) R ≡ cond (eqb S R) v (at p R)
 at_put [] S v h R = at_front [] S v tt R
 at_put (t ∷ p) S v h R =
-    elim (cases_order S t.0) [
-      | inl e ↦ rw (put_here t p S v e, at_front p S v (above_less p S t.0 (omega arith) h.1) R) (grind (arith, nat_tests))
-      | inr (inl l) ↦ rw (put_below t p S v l) (at_front (t ∷ p) S v (l, above_less p S t.0 (omega arith) h.1) R)
-      | inr (inr l) ↦ rw (put_above t p S v l, at_put p S v h.2 R) (grind (arith, nat_tests))
-    ]
+    put_cases (λ q. at q R ≡ cond (eqb S R) v (at (t ∷ p) R)) t p S v
+    (λ e. rw (at_front p S v (above_less p S t.0 (omega arith) h.1) R) (grind (arith, nat_tests)))
+    (λ l. at_front (t ∷ p) S v (l, above_less p S t.0 (omega arith) h.1) R)
+    (λ l. rw (at_put p S v h.2 R) (grind (arith, nat_tests)))
 
 -- ---- writing keeps the order
 pub above_front : (p : Poly) (S v R : ℕ) → R < S → Above R p → Above R (front S v p)
@@ -43,11 +52,7 @@ above_front p S (suc v) R l h = (l, h)
 pub above_put : (p : Poly) (S v R : ℕ) → R < S → Above R p → Above R (put p S v)
 above_put [] S v R l h = above_front [] S v R l tt
 above_put (t ∷ p) S v R l h =
-    elim (cases_order S t.0) [
-      | inl e ↦ rw (put_here t p S v e) (above_front p S v R l h.1)
-      | inr (inl m) ↦ rw (put_below t p S v m) (above_front (t ∷ p) S v R l h)
-      | inr (inr m) ↦ rw (put_above t p S v m) (h.0, above_put p S v R l h.1)
-    ]
+    put_cases (Above R) t p S v (λ _. above_front p S v R l h.1) (λ _. above_front (t ∷ p) S v R l h) (λ _. (h.0, above_put p S v R l h.1))
 
 rising_front : (p : Poly) (S v : ℕ) → Above S p → Rising p → Rising (front S v p)
 rising_front p S zero a h = h
@@ -56,11 +61,9 @@ rising_front p S (suc v) a h = (omega arith, a, h)
 pub rising_put : (p : Poly) (S v : ℕ) → Rising p → Rising (put p S v)
 rising_put [] S v h = rising_front [] S v tt tt
 rising_put (t ∷ p) S v h =
-    elim (cases_order S t.0) [
-      | inl e ↦ rw (put_here t p S v e) (rising_front p S v (above_less p S t.0 (omega arith) h.1) h.2)
-      | inr (inl m) ↦ rw (put_below t p S v m) (rising_front (t ∷ p) S v (m, above_less p S t.0 (omega arith) h.1) h)
-      | inr (inr m) ↦ rw (put_above t p S v m) (h.0, above_put p S v t.0 m h.1, rising_put p S v h.2)
-    ]
+    put_cases Rising t p S v (λ e. rising_front p S v (above_less p S t.0 (omega arith) h.1) h.2)
+    (λ m. rising_front (t ∷ p) S v (m, above_less p S t.0 (omega arith) h.1) h)
+    (λ m. (h.0, above_put p S v t.0 m h.1, rising_put p S v h.2))
 
 -- ---- two polynomials with the same numbers are the same
 pub at_first : (t : ℕ × ℕ) (p : Poly) → at (t ∷ p) t.0 ≡ t.1

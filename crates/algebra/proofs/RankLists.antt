@@ -1,7 +1,6 @@
 -- The ranks of a set as a rising list.
-use Rattle.std.proofs.Common.{◌≡◌, ℕ, zero, suc, ◌+◌, ◌-◌, ◌<◌, ◌≤◌, true, List, [], ◌∷◌, length, filter, ap, ◌∙◌, subst, inl, inr, arith}
-use Rattle.std.specs.List.{range_with_len, ContainsAt as Has, AllByRecursion as All}
-use Rattle.std.proofs.ByRecursion.{All-weaker}
+use Rattle.std.proofs.Common.{◌≡◌, ℕ, zero, suc, ◌+◌, ◌-◌, ◌<◌, ◌≤◌, true, List, [], ◌∷◌, filter, ap, ◌∙◌, inl, inr, arith}
+use Rattle.std.specs.List.{range_with_len, ContainsAt as Has}
 use Rattle.std.proofs.lemmas.Bool.{cases_eq, cond-true, cond_both}
 use Rattle.algebra.proofs.Spans.{span_none, span_next}
 use Rattle.algebra.specs.Sets.{has, NoneFrom, LowestFrom, ranks_from}
@@ -19,37 +18,6 @@ unfolding ranks_from
 ranks_next S m k f l =
     let o : m + (512 - m) - (k + 1) ≡ 512 - (k + 1) = omega (arith, f.0) in
     span_next (has S) m (512 - m) k f.0 (omega (arith, f.0)) f.1 f.2 ∙ ap (λ x. k ∷ span S (k + 1) x) o
-
--- ---- what stands in the list
-span_length : (S m n : ℕ) → length (span S m n) ≤ n
-span_length S m zero = omega arith
-span_length S m (suc n) =
-    let l = span_length S (m + 1) n in
-    cond_both (has S m) (m ∷ span S (m + 1) n) (span S (m + 1) n) (λ xs. length xs ≤ suc n) (λ e. omega arith) (λ e. omega arith)
-
-span_held : (S m n : ℕ) → All (λ r. (m ≤ r) × (r < m + n) × (has S r ≡ true)) (span S m n)
-span_held S m zero = tt
-span_held S m (suc n) =
-    let P : ℕ → Type 0 = λ r. (m ≤ r) × (r < m + suc n) × (has S r ≡ true) in
-    let Q : ℕ → Type 0 = λ r. (m + 1 ≤ r) × (r < m + 1 + n) × (has S r ≡ true) in
-    let t : All P (span S (m + 1) n) = All-weaker Q P (λ r h. (omega (arith, h.0), omega (arith, h.1), h.2)) (span S (m + 1) n) (span_held S (m + 1) n) in
-    cond_both (has S m) (m ∷ span S (m + 1) n) (span S (m + 1) n) (λ xs. All P xs) (λ e. ((omega arith, omega arith, e), t)) (λ e. t)
-
-pub ranks_length : (S m : ℕ) → length (ranks_from m S) ≤ 512 - m
-unfolding ranks_from
-ranks_length S m = span_length S m (512 - m)
-
-pub ranks_held : (S m : ℕ) → All (λ r. (m ≤ r) × (r < 512) × (has S r ≡ true)) (ranks_from m S)
-unfolding ranks_from
-ranks_held S m =
-    All-weaker (λ r. (m ≤ r) × (r < m + (512 - m)) × (has S r ≡ true)) (λ r. (m ≤ r) × (r < 512) × (has S r ≡ true))
-    (λ r h. (h.0, omega (arith, h.0, h.1), h.2)) (span S m (512 - m)) (span_held S m (512 - m))
-
--- the first rank of the list
-pub ranks_first : (S m k : ℕ) (ks : List ℕ) → ranks_from m S ≡ k ∷ ks → (m ≤ k) × (k < 512) × (has S k ≡ true)
-ranks_first S m k ks e =
-    let P : ℕ → Type 0 = λ r. (m ≤ r) × (r < 512) × (has S r ≡ true) in
-    (subst (λ xs. All P xs) e (ranks_held S m)).0
 
 -- every rank is listed
 pub ranks_listed : (S m r : ℕ) → m ≤ r → r < 512 → has S r ≡ true → Has (ranks_from m S) r

@@ -1,9 +1,9 @@
 -- The remainder by a polynomial p of degree k: it exists, it is the only one, and it keeps sums and products. Assumes nothing.
-use Rattle.std.proofs.Common.{◌≡◌, ℕ, zero, suc, ◌+◌, ◌-◌, ◌*◌, ◌/◌, ◌%◌, ◌^◌, ◌<◌, ◌≤◌, sym, refl, ap, ◌∙◌, subst, ap₂, le_refl, not-suc-le-zero, mul-le-mul_right, suc-add, pow-suc, arith, pow_pos, pow-add, shl_lt}
-use native.Mathlib.Decide.{le_ind, dec_lt, ℕ_discrete}
+use Rattle.std.proofs.Common.{◌≡◌, ℕ, zero, suc, ◌+◌, ◌-◌, ◌*◌, ◌/◌, ◌%◌, ◌^◌, ◌<◌, ◌≤◌, sym, refl, inl, inr, ap, ◌∙◌, subst, ap₂, le_refl, not-suc-le-zero, mul-le-mul_right, suc-add, pow-suc, arith, pow_pos, pow-add, shl_lt}
+use native.Mathlib.Decide.{le_ind}
 use lib.Arith.{half_le, bin_ind}
 use lib.Bits.{bit_xor, xor_comm, xor_assoc, xor_zero_r, xor_self, xor_lt, xor_block, xor_shifted}
-use Rattle.std.proofs.lemmas.Bool.{cond_below, cond_above}
+use Rattle.std.proofs.lemmas.Bool.{cond_below, cond_above, cases_eq, cases_lt}
 use Rattle.algebra.specs.Gf2.{◌⊗◌, Degree, Remainder, OnlyRemainder, fold, reduce, remainder}
 use Rattle.algebra.proofs.Xor.{digit_below, xor_swap, xor_twice, xor_equal, xor_double, digit_lt, by_digits}
 use Rattle.algebra.proofs.Product.{times_step_l, times_xor_l, times_double_l, times_comm, times_assoc, times_power, one_times, zero_times}
@@ -59,33 +59,36 @@ shift_degree k p i (low, high) = (
 module _ (k p : ℕ) (deg : Degree k p) where
   -- a multiple of p but 0 has degree k at least
   multiple : (q : ℕ) → (q ≡ 0 → ⊥) → 2 ^ k ≤ q ⊗ p
-  multiple =
-      bin_ind (λ (n : ℕ). (n ≡ 0 → ⊥) → 2 ^ k ≤ n ⊗ p) (λ ne. absurd (ne refl)) (λ n ih ne. step n ih ne (ℕ_discrete (n / 2) 0))
+  multiple = bin_ind (λ (n : ℕ). (n ≡ 0 → ⊥) → 2 ^ k ≤ n ⊗ p) (λ ne. absurd (ne refl)) step
     where
-      step : (n : ℕ) → ((n / 2 ≡ 0 → ⊥) → 2 ^ k ≤ (n / 2) ⊗ p) → (n ≡ 0 → ⊥) → Dec (n / 2 ≡ 0) → 2 ^ k ≤ n ⊗ p
-      step n ih ne (yes e) =
-          let one : n ≡ 1 = omega arith in
-          subst (λ (x : ℕ). 2 ^ k ≤ x) (sym (ap (λ (x : ℕ). x ⊗ p) one ∙ one_times p)) deg.0
-      step n ih ne (no f) =
+      -- the product has the degree of its upper part, whatever the lowest digit adds
+      upper : (n : ℕ) → 2 ^ k ≤ (n / 2) ⊗ p → n ⊗ p < 2 ^ k → ⊥
+      upper n big l =
           let m = (n / 2) ⊗ p in
           let c = n % 2 * p in
           let s = pow-suc 2 k in
-          let big : 2 ^ k ≤ m = ih f in
           let small : c < 2 ^ suc k = digit_below (suc k) p (n % 2) deg.1 (digit_lt n) in
-          le_of (dec_lt (n ⊗ p) (2 ^ k)) (λ l.
           let l' : n ⊗ p < 2 ^ suc k = omega arith in
           let e : bit_xor c (n ⊗ p) ≡ m * 2 = ap (bit_xor c) (times_step_l n p) ∙ xor_twice c (m * 2) in
           let b = xor_lt (suc k) c (n ⊗ p) small l' in
-          omega (arith, e, b))
-        where
-          le_of : Dec (n ⊗ p < 2 ^ k) → (n ⊗ p < 2 ^ k → ⊥) → 2 ^ k ≤ n ⊗ p
-          le_of (yes l) g = absurd (g l)
-          le_of (no g) h = omega arith
+          omega (arith, e, b)
+
+      step : (n : ℕ) → ((n / 2 ≡ 0 → ⊥) → 2 ^ k ≤ (n / 2) ⊗ p) → (n ≡ 0 → ⊥) → 2 ^ k ≤ n ⊗ p
+      step n ih ne =
+          elim (cases_eq (n / 2) 0) [
+            | inl e ↦
+                let one : n ≡ 1 = omega arith in
+                subst (λ (x : ℕ). 2 ^ k ≤ x) (sym (ap (λ (x : ℕ). x ⊗ p) one ∙ one_times p)) deg.0
+            | inr f ↦ elim (cases_lt (n ⊗ p) (2 ^ k)) [ inl l ↦ absurd (upper n (ih f) l) | inr g ↦ g ]
+          ]
 
   -- ---- the remainder exists
 
   next : (x r : ℕ) → Remainder k p (x / 2) r → Remainder k p x (fold k p (r * 2 + x % 2))
-  next x r h = pick (dec_lt y (2 ^ k))
+  next x r h = elim (cases_lt y (2 ^ k)) [
+    | inl l ↦ subst (Remainder k p x) (sym (fold_low k p y l)) (record { small = l; quotient = d; split = whole })
+    | inr g ↦ folded g
+  ]
     where
       y : ℕ
       y = r * 2 + x % 2
@@ -102,12 +105,10 @@ module _ (k p : ℕ) (deg : Degree k p) where
           ∙ xor_assoc (d ⊗ p) (r * 2) (x % 2)
           ∙ ap (bit_xor (d ⊗ p)) (xor_shifted r 1 (x % 2) (digit_lt x))
 
-      pick : Dec (y < 2 ^ k) → Remainder k p x (fold k p y)
-      pick (yes l) = subst (Remainder k p x) (sym (fold_low k p y l)) (record { small = l; quotient = d; split = whole })
-      pick (no f) =
+      folded : 2 ^ k ≤ y → Remainder k p x (fold k p y)
+      folded g =
           let s = pow-suc 2 k in
           let rs = h.small in
-          let g : 2 ^ k ≤ y = omega arith in
           let b : y < 2 ^ suc k = omega (arith, digit_lt x) in
           subst (Remainder k p x) (sym (fold_high k p y g)) (record {
             small = tops k y p (g, b) deg;
@@ -127,7 +128,14 @@ module _ (k p : ℕ) (deg : Degree k p) where
   -- ---- and is the only one
 
   unique : {x r s : ℕ} → Remainder k p x r → Remainder k p x s → r ≡ s
-  unique {x} {r} {s} h g = xor_equal r s (zero_of (ℕ_discrete (bit_xor h.quotient g.quotient) 0))
+  unique {x} {r} {s} h g = xor_equal r s (
+      elim (cases_eq (bit_xor h.quotient g.quotient) 0) [
+        | inl z ↦ e ∙ ap (λ (q : ℕ). q ⊗ p) z ∙ zero_times p
+        | inr f ↦
+            let l = xor_lt k r s h.small g.small in
+            let m = multiple (bit_xor h.quotient g.quotient) f in
+            absurd (omega (arith, e, l, m))
+      ])
     where
       a : ℕ
       a = h.quotient ⊗ p
@@ -142,13 +150,6 @@ module _ (k p : ℕ) (deg : Degree k p) where
           ∙ ap (bit_xor (bit_xor a b)) (xor_swap a b r s ∙ ap₂ bit_xor (sym h.split) (sym g.split) ∙ xor_self x)
           ∙ xor_zero_r (bit_xor a b)
           ∙ sym (times_xor_l h.quotient g.quotient p)
-
-      zero_of : Dec (bit_xor h.quotient g.quotient ≡ 0) → bit_xor r s ≡ 0
-      zero_of (yes z) = e ∙ ap (λ (q : ℕ). q ⊗ p) z ∙ zero_times p
-      zero_of (no f) =
-          let l = xor_lt k r s h.small g.small in
-          let m = multiple (bit_xor h.quotient g.quotient) f in
-          absurd (omega (arith, e, l, m))
 
   remainder_is : {x r : ℕ} → Remainder k p x r → remainder k p x ≡ r
   remainder_is {x} h = unique (exists x) h

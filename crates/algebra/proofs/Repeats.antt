@@ -1,13 +1,6 @@
 -- A number joined n times by an associative operation with a unit, among the numbers that P holds of. Assumes nothing.
 use Rattle.std.proofs.Common.{◌≡◌, ℕ, zero, suc, ◌+◌, ◌*◌, ◌/◌, ◌%◌, sym, refl, ap, ◌∙◌, subst, ap₂, suc-add, zero-add, arith}
-use Rattle.algebra.specs.Repeated.{repeated}
-
-pub record Monoid (P : ℕ → Type 0) (op : ℕ → ℕ → ℕ) (unit : ℕ) : Type 0 where
-  pub unit_in : P unit
-  pub op_in : (a b : ℕ) → P a → P b → P (op a b)
-  pub assoc : (a b c : ℕ) → P a → P b → P c → op (op a b) c ≡ op a (op b c)
-  pub left : (a : ℕ) → P a → op unit a ≡ a
-  pub right : (a : ℕ) → P a → op a unit ≡ a
+use Rattle.algebra.specs.Repeated.{repeated, Monoid}
 
 module _ {P : ℕ → Type 0} {op : ℕ → ℕ → ℕ} {unit : ℕ} (m : Monoid P op unit) where
   pub repeated_in : (n c : ℕ) → P c → P (repeated op unit n c)
@@ -50,12 +43,8 @@ pub record Doubling (P : ℕ → Type 0) (op : ℕ → ℕ → ℕ) (unit n c do
   pub whole : op done (repeated op unit rest double) ≡ repeated op unit n c
 
 module _ {P : ℕ → Type 0} {op : ℕ → ℕ → ℕ} {unit : ℕ} (m : Monoid P op unit) {n c : ℕ} where
-  pub doubling_starts : {done double : ℕ} → P c → done ≡ unit → double ≡ c → Doubling P op unit n c done double n
-  doubling_starts {done} {double} h e f = record {
-    done_in = subst P (sym e) m.unit_in;
-    double_in = subst P (sym f) h;
-    whole = ap₂ (λ (x y : ℕ). op x (repeated op unit n y)) e f ∙ m.left (repeated op unit n c) (repeated_in m n c h);
-  }
+  pub doubling_starts : P c → Doubling P op unit n c unit c n
+  doubling_starts h = record { done_in = m.unit_in; double_in = h; whole = m.left (repeated op unit n c) (repeated_in m n c h) }
 
   pub doubling_odd : {done double rest done' double' : ℕ} → Doubling P op unit n c done double rest → rest % 2 ≡ 1
       → done' ≡ op done double → double' ≡ op double double → Doubling P op unit n c done' double' (rest / 2)

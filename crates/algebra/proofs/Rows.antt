@@ -1,11 +1,11 @@
 -- The facts of a polynomial's list by places are those of its form; what reading and writing do at the place that a search gives.
-use Rattle.std.proofs.Common.{◌≡◌, ℕ, zero, suc, ◌^◌, ◌<◌, ◌≤◌, List, [], ◌∷◌, ◌++◌, map, length, get_or, take, drop, Some, sym, refl, ap, ◌∙◌, inl, inr, arith}
+use Rattle.std.proofs.Common.{◌≡◌, ℕ, zero, suc, ◌^◌, ◌<◌, ◌≤◌, List, [], ◌∷◌, ◌++◌, map, length, get_or, take, drop, Some, sym, refl, ap, ◌∙◌, arith}
 use Rattle.std.specs.List.{AllByRecursion as All}
 use Rattle.std.proofs.lemmas.List.{length-map, length-take-le}
-use Rattle.std.proofs.lemmas.Bool.{eq-eqb, ne_eqb, cases_order}
+use Rattle.std.proofs.lemmas.Bool.{eq-eqb, ne_eqb}
 use Rattle.algebra.specs.Poly.{Poly, at, front, put, standing, lowest, highest, Above, Rising}
 use Rattle.algebra.specs.Rows.{set_at, number_at, Sorted, Nonzero, Bounded, StandsAt, FallsAt}
-use Rattle.algebra.proofs.Polys.{put_below, put_here, put_above}
+use Rattle.algebra.proofs.Polys.{put_below, put_here, put_above, put_cases}
 
 -- ---- by places and by form
 pub above_at : (p : Poly) (S : ℕ) → Above S p → (k : ℕ) → k < length p → S < set_at p k
@@ -59,11 +59,8 @@ bounded_front p S (suc v) b h = bounded_cons (S, suc v) p b h
 pub bounded_put : (p : Poly) (S v : ℕ) → v < 2 ^ 32 → Bounded p → Bounded (put p S v)
 bounded_put [] S v b h = bounded_front [] S v b h
 bounded_put (t ∷ p) S v b h =
-    elim (cases_order S t.0) [
-      | inl e ↦ rw (put_here t p S v e) (bounded_front p S v b (bounded_tail t p h))
-      | inr (inl l) ↦ rw (put_below t p S v l) (bounded_front (t ∷ p) S v b h)
-      | inr (inr l) ↦ rw (put_above t p S v l) (bounded_cons t (put p S v) (h 0 (omega arith)) (bounded_put p S v b (bounded_tail t p h)))
-    ]
+    put_cases Bounded t p S v (λ _. bounded_front p S v b (bounded_tail t p h)) (λ _. bounded_front (t ∷ p) S v b h)
+    (λ _. bounded_cons t (put p S v) (h 0 (omega arith)) (bounded_put p S v b (bounded_tail t p h)))
 
 -- sets below a bound and bounded numbers, for each term at once
 pub all_sized : (p : Poly) (n : ℕ) → All (λ (t : ℕ × ℕ). t.0 < n) p → Bounded p → All (λ (t : ℕ × ℕ). (t.0 < n) × (t.1 < 2 ^ 32)) p

@@ -4,7 +4,7 @@
 --     Absent ts S    no slot has the set S
 --     Twice ts i j   the slots i and j have the same set
 --     Apart ts       no set has two slots
-use Rattle.std.specs.Prelude.{◌≡◌, ℕ, ◌<◌, cond, List, [], ◌∷◌, length, ◌==◌, ◌≢◌}
+use Rattle.std.specs.Prelude.{◌≡◌, ℕ, ◌<◌, if◌then◌else◌, List, [], ◌∷◌, length, ◌==◌, ◌≢◌}
 use Rattle.algebra.specs.Poly.{Poly, put}
 pub use Rattle.algebra.specs.Rows.{set_at, number_at}
 
@@ -13,7 +13,7 @@ Slots = List (ℕ × ℕ)
 
 abbrev pub gather : Slots → Poly
 gather [] = []
-gather (t ∷ ts) = cond (t.1 == 0) (gather ts) (put (gather ts) t.0 t.1)
+gather (t ∷ ts) = if t.1 == 0 then gather ts else put (gather ts) t.0 t.1
 
 abbrev pub Absent : Slots → ℕ → Type 0
 Absent ts S = (i : ℕ) → i < length ts → 0 < number_at ts i → set_at ts i ≢ S
@@ -26,4 +26,4 @@ pub record Twice (ts : Slots) (i j : ℕ) : Type 0 where
   pub same : set_at ts i ≡ set_at ts j
 
 abbrev pub Apart : Slots → Type 0
-Apart ts = (i j : ℕ) → Twice ts i j → ⊥
+Apart ts = (i j : ℕ) → ¬ Twice ts i j

@@ -6,7 +6,7 @@
 --     Remainder k p x r       r has degree below k, and x = q · p + r for some q
 --     remainder k p x         computed by the binary digits of x
 --     OnlyRemainder k p x r   r is a remainder of x by p, and every remainder of x by p is r
-use Rattle.std.specs.Prelude.{◌≡◌, ℕ, zero, suc, ◌+◌, ◌*◌, ◌/◌, ◌%◌, ◌^◌, ◌<◌, ◌≤◌, cond, bit_xor, nat_lt}
+use Rattle.std.specs.Prelude.{◌≡◌, ℕ, zero, suc, ◌+◌, ◌*◌, ◌/◌, ◌%◌, ◌^◌, ◌<◌, ◌≤◌, if◌then◌else◌, bit_xor, nat_lt}
 
 infixl 70 ◌⊗◌
 -- the product of a and b, of at most n digits of b: b₀ · a + X · (a · (b / X))
@@ -41,7 +41,7 @@ pub record OnlyRemainder (k p x r : ℕ) : Type 0 where
 
 -- p is taken away from y, of degree k at most, where y has degree k
 abbrev pub fold : ℕ → ℕ → ℕ → ℕ
-fold k p y = cond (nat_lt y (2 ^ k)) y (bit_xor y p)
+fold k p y = if nat_lt y (2 ^ k) then y else bit_xor y p
 
 -- the remainder of at most n digits of x, the highest first
 unfoldable pub reduce : ℕ → ℕ → ℕ → ℕ → ℕ

@@ -8,14 +8,14 @@
 --     lowest p, highest p   the term at that end, or none
 --     Above S p             every set of p is above S
 --     Rising p              the sets rise, and no number is 0: the form of a polynomial
-use Rattle.std.specs.Prelude.{ℕ, zero, suc, ◌<◌, cond, List, [], ◌∷◌, map, Some, None, Option, ◌==◌, nat_lt}
+use Rattle.std.specs.Prelude.{ℕ, zero, suc, ◌<◌, if◌then◌else◌, List, [], ◌∷◌, map, Some, None, Option, ◌==◌, nat_lt}
 
 abbrev pub Poly : Type 0
 Poly = List (ℕ × ℕ)
 
 abbrev pub at : Poly → ℕ → ℕ
 at [] S = 0
-at (t ∷ p) S = cond (t.0 == S) t.1 (at p S)
+at (t ∷ p) S = if t.0 == S then t.1 else at p S
 
 abbrev pub front : ℕ → ℕ → Poly → Poly
 front S zero p = p
@@ -23,7 +23,7 @@ front S (suc v) p = (S, suc v) ∷ p
 
 abbrev pub put : Poly → ℕ → ℕ → Poly
 put [] S v = front S v []
-put (t ∷ p) S v = cond (nat_lt S t.0) (front S v (t ∷ p)) (cond (S == t.0) (front S v p) (t ∷ put p S v))
+put (t ∷ p) S v = if nat_lt S t.0 then front S v (t ∷ p) else if S == t.0 then front S v p else t ∷ put p S v
 
 abbrev pub standing : Poly → List ℕ
 standing p = map (λ (t : ℕ × ℕ). t.0) p

@@ -4,7 +4,7 @@
 --     Laws r      r is a commutative ring on its codes, and these are below 2^32
 --     Lawful r    the laws, and the operations answer 0 to a number that is no code
 --     guarded r   r, with the answer 0 to a number that is no code
-use Rattle.std.specs.Prelude.{◌≡◌, ℕ, ◌^◌, ◌<◌, Bool, cond, T}
+use Rattle.std.specs.Prelude.{◌≡◌, ℕ, ◌^◌, ◌<◌, Bool, ◌&&◌, IsTrue, if◌then◌else◌}
 
 pub record Ring : Type 0 where
   pub code : ℕ → Bool
@@ -15,7 +15,7 @@ pub record Ring : Type 0 where
   pub product : ℕ → ℕ → ℕ
 
 abbrev pub Code : Ring → ℕ → Type 0
-Code r n = T (r.code n)
+Code r n = IsTrue (r.code n)
 
 pub record Laws (r : Ring) : Type 0 where
   pub code_below : (a : ℕ) → Code r a → a < 2 ^ 32
@@ -36,16 +36,16 @@ pub record Laws (r : Ring) : Type 0 where
 
 pub record Lawful (r : Ring) : Type 0 where
   pub laws : Laws r
-  pub sum_outside : (a b : ℕ) → (Code r a × Code r b → ⊥) → r.sum a b ≡ 0
-  pub negative_outside : (a : ℕ) → (Code r a → ⊥) → r.negative a ≡ 0
-  pub product_outside : (a b : ℕ) → (Code r a × Code r b → ⊥) → r.product a b ≡ 0
+  pub sum_outside : (a b : ℕ) → ¬ (Code r a × Code r b) → r.sum a b ≡ 0
+  pub negative_outside : (a : ℕ) → ¬ Code r a → r.negative a ≡ 0
+  pub product_outside : (a b : ℕ) → ¬ (Code r a × Code r b) → r.product a b ≡ 0
 
 -- the answer of f where its arguments are codes, and 0 elsewhere
 abbrev pub on_code : (ℕ → Bool) → (ℕ → ℕ) → ℕ → ℕ
-on_code is f a = cond (is a) (f a) 0
+on_code is f a = if is a then f a else 0
 
 abbrev pub on_codes : (ℕ → Bool) → (ℕ → ℕ → ℕ) → ℕ → ℕ → ℕ
-on_codes is f a b = cond (is a) (cond (is b) (f a b) 0) 0
+on_codes is f a b = if is a && is b then f a b else 0
 
 abbrev pub guarded : Ring → Ring
 guarded r = record {

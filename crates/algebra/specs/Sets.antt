@@ -12,7 +12,7 @@
 --     HigherAt r A B     r is the highest rank in which A and B differ, and A has it
 --     Higher A B         A has the highest rank in which A and B differ
 --     Membership         what has says of the empty set, of inserted, removed, bit_or and within; and sets with the same ranks are the same
-use Rattle.std.specs.Prelude.{◌≡◌, ℕ, ◌-◌, ◌/◌, ◌%◌, ◌^◌, ◌<◌, ◌≤◌, Bool, true, false, cond, not, ◌&&◌, ◌||◌, List, filter, ◌==◌, bit_and, bit_or, nat_lt}
+use Rattle.std.specs.Prelude.{◌≡◌, ℕ, ◌-◌, ◌/◌, ◌%◌, ◌^◌, ◌<◌, ◌≤◌, Bool, true, false, if◌then◌else◌, not, ◌&&◌, ◌||◌, List, filter, ◌==◌, bit_and, bit_or, nat_lt}
 use Rattle.std.specs.List.{range_with_len}
 
 abbrev pub has : ℕ → ℕ → Bool
@@ -22,10 +22,10 @@ abbrev pub within : ℕ → ℕ → Bool
 within S A = bit_and S A == S
 
 abbrev pub inserted : ℕ → ℕ → ℕ
-inserted S r = cond (nat_lt r 512) (bit_or S (2 ^ r)) S
+inserted S r = if nat_lt r 512 then bit_or S (2 ^ r) else S
 
 abbrev pub removed : ℕ → ℕ → ℕ
-removed S r = cond (has S r) (S - 2 ^ r) S
+removed S r = if has S r then S - 2 ^ r else S
 
 abbrev pub NoneFrom : ℕ → ℕ → Type 0
 NoneFrom m S = (k : ℕ) → m ≤ k → has S k ≡ false

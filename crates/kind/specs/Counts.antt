@@ -5,8 +5,9 @@
 use Rattle.std.specs.Prelude.{ℕ, ◌+◌, ◌-◌, ◌*◌, ◌%◌, ◌^◌, ◌≤◌, nat_lt}
 use Rattle.algebra.specs.Ring.{Ring, guarded}
 
-abbrev pub CountsSize : ℕ → Type 0
-CountsSize m = (1 ≤ m) × (m ≤ 32)
+pub record CountsSize (m : ℕ) : Type 0 where
+  pub least : 1 ≤ m
+  pub most : m ≤ 32
 
 abbrev pub modular : ℕ → Ring
 modular m = record {

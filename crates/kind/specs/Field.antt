@@ -7,8 +7,10 @@ use Rattle.std.specs.Int.Bits.{bit_xor}
 use Rattle.algebra.specs.Gf2.{◌⊗◌, remainder, Degree}
 use Rattle.algebra.specs.Ring.{Ring, guarded}
 
-abbrev pub FieldSize : ℕ → ℕ → Type 0
-FieldSize k p = (2 ≤ k) × (k ≤ 8) × Degree k p
+pub record FieldSize (k p : ℕ) : Type 0 where
+  pub least : 2 ≤ k
+  pub most : k ≤ 8
+  pub degree : Degree k p
 
 abbrev pub quotient : ℕ → ℕ → Ring
 quotient k p = record {

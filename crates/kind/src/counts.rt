@@ -1,5 +1,5 @@
 // The counts kind: integers modulo a power of two.
-ghost use Rattle.std.specs.Prelude.{◌≡◌, ◌^◌, MatchResult};
+ghost use Rattle.std.specs.Prelude.{◌≡◌, ◌%◌, ◌^◌, MatchResult};
 ghost use Rattle.kind.specs.Counts.{CountsSize, counts as ring_of_counts};
 ghost use Rattle.kind.specs.Making.{bad_kind};
 ghost use Rattle.kind.specs.CountsLaws.{counts_lawful};
@@ -12,7 +12,7 @@ const LEAST_WIDTH: u32 = 1;
 const MOST_WIDTH: u32 = 32;
 
 // A counts kind: the codes are the numbers of `width` bits, and sums and products wrap around.
-#[derive(Clone, Copy)]
+#[derive(Clone, Copy, PartialEq, Eq, Debug)]
 pub struct Counts {
     width: u32,
     ghost sized: { CountsSize width },
@@ -21,9 +21,11 @@ pub struct Counts {
 impl Counts {
     // The counts of a width from 1 to 32; any other is refused.
     pub fn new(width: u32) -> Result<Self, Refusal>
-        ensures { MatchResult result (λ c. CountsSize width × (c.width ≡ width)) (λ e. (CountsSize width → ⊥) × (e ≡ bad_kind width)) }
+        ensures { MatchResult result
+            (λ c. CountsSize width × (c.width ≡ width))
+            (λ e. ¬ CountsSize width × (e ≡ bad_kind width)) }
     {
-        if width < LEAST_WIDTH || width > MOST_WIDTH {
+        if !(LEAST_WIDTH..=MOST_WIDTH).contains(&width) {
             return Err(bad_kind(width));
         }
         Ok(Counts { width })
@@ -35,8 +37,16 @@ impl Counts {
     {
         1u64 << self.width
     }
+
+    // The code that a number wraps around to.
+    fn wrapped(&self, n: u64) -> u32
+        ensures { result ≡ n % 2 ^ self.now.width }
+    {
+        (n % self.codes()) as u32
+    }
 }
 
+// The test for codes stands in each call: a function over every kind that held it once could not be called from an `impl Kind`.
 impl Kind for Counts {
     ghost ring = { λ c. ring_of_counts c.width };
 
@@ -51,12 +61,12 @@ impl Kind for Counts {
     }
 
     fn base(&self) -> u32 {
-        (2 % self.codes()) as u32
+        self.wrapped(2)
     }
 
     fn sum(&self, a: u32, b: u32) -> u32 {
         if self.is_code(a) && self.is_code(b) {
-            ((u64::from(a) + u64::from(b)) % self.codes()) as u32
+            self.wrapped(u64::from(a) + u64::from(b))
         } else {
             0
         }
@@ -64,7 +74,7 @@ impl Kind for Counts {
 
     fn negative(&self, a: u32) -> u32 {
         if self.is_code(a) {
-            ((self.codes() - u64::from(a)) % self.codes()) as u32
+            self.wrapped(self.codes() - u64::from(a))
         } else {
             0
         }
@@ -72,7 +82,7 @@ impl Kind for Counts {
 
     fn product(&self, a: u32, b: u32) -> u32 {
         if self.is_code(a) && self.is_code(b) {
-            ((u64::from(a) * u64::from(b)) % self.codes()) as u32
+            self.wrapped(u64::from(a) * u64::from(b))
         } else {
             0
         }

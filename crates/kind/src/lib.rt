@@ -11,6 +11,7 @@ pub mod counts;
 pub mod field;
 pub mod multiples;
 pub mod powers;
+mod repeated;
 
 // A kind of coefficient: a commutative ring whose elements are codes, numbers below 2^32, 0 among them. `ring` is its meaning, and every
 // implementation owes the laws. At a number that is no code, sum, negative and product answer 0.

@@ -3,6 +3,7 @@ ghost use Rattle.std.specs.Prelude.{◌≡◌};
 ghost use Rattle.algebra.specs.Repeated.{many as many_of, multiple as multiple_of, Multiples};
 
 use super::Kind;
+use super::repeated::repeated;
 
 // An integer times a code, by sum and negative; 0 at a number that is no code. That this is the multiple is part of the promise.
 pub fn multiple<K: Kind>(kind: &K, times: i32, code: u32) -> u32
@@ -21,15 +22,5 @@ fn many<K: Kind>(kind: &K, times: u32, code: u32) -> u32
     if !kind.is_code(code) {
         return 0;
     }
-    let mut sum = 0;
-    let mut double = code;
-    let mut rest = times;
-    while rest != 0 {
-        if rest % 2 == 1 {
-            sum = kind.sum(sum, double);
-        }
-        double = kind.sum(double, double);
-        rest /= 2;
-    }
-    sum
+    repeated(|a, b| kind.sum(a, b), 0, times, code)
 }

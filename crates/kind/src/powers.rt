@@ -4,6 +4,7 @@ ghost use Rattle.algebra.specs.Ring.{Code};
 ghost use Rattle.algebra.specs.Repeated.{power as power_of, Powers};
 
 use super::Kind;
+use super::repeated::repeated;
 
 // The base to an exponent, the weight of a position in a word. That exponents add up is part of the promise.
 pub fn base_power<K: Kind>(kind: &K, exponent: u32) -> u32
@@ -19,15 +20,5 @@ fn power<K: Kind>(kind: &K, code: u32, exponent: u32) -> u32
     ensures value { result ≡ power_of (K.ring kind.now) code exponent }
     ensures law { Powers (K.ring kind.now) }
 {
-    let mut product = kind.one();
-    let mut square = code;
-    let mut rest = exponent;
-    while rest != 0 {
-        if rest % 2 == 1 {
-            product = kind.product(product, square);
-        }
-        square = kind.product(square, square);
-        rest /= 2;
-    }
-    product
+    repeated(|a, b| kind.product(a, b), kind.one(), exponent, code)
 }

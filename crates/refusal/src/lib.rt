@@ -1,52 +1,49 @@
 // Refusals: which of the seventeen listed faults a call found, at which place, in which layer.
 #![tactic(auto)]
 
-ghost use Rattle.std.specs.Prelude.{◌≡◌, ◌==◌, Some, Decides};
-ghost use Rattle.std.specs.Cmp.{partial_equiv_from_equiv};
-ghost use Rattle.std.specs.Cmp.Rules.{comparing};
-ghost use Rattle.std.specs.Ordering.{on};
-ghost use Rattle.std.proofs.Common.{rules};
+ghost use Rattle.std.specs.Prelude.{◌≡◌, Some};
 ghost use Rattle.refusal.specs.Numbers.{number_of, word_of, text_of};
 
+use std::error::Error;
 use std::fmt;
 
-// What is wrong: one case for each numbered refusal, in the order of the numbers.
-#[derive(Clone, Copy, Eq, Debug)]
+// What is wrong: one case for each numbered refusal, with its number.
+#[derive(Clone, Copy, PartialEq, Eq, Hash, Debug)]
 pub enum Fault {
     // The bytes end inside a command or before END.
-    Truncated,
+    Truncated = 1,
     // A command byte that is not listed.
-    UnknownCommand,
+    UnknownCommand = 2,
     // A command that is not allowed in its section.
-    OutOfSection,
+    OutOfSection = 3,
     // A kind byte, size or modulus that makes no kind.
-    BadKind,
+    BadKind = 4,
     // One signal, bit, claim or term too many.
-    TooMany,
+    TooMany = 5,
     // A label declared before, a word opened before, or a label already in this word.
-    Duplicate,
+    Duplicate = 6,
     // A word number that cannot be opened, or a term's word that is not closed before.
-    BadWord,
+    BadWord = 7,
     // A coefficient that is not a code of the kind.
-    NotACode,
+    NotACode = 8,
     // An operand or a bit that names no signal.
-    UnknownSignal,
+    UnknownSignal = 9,
     // Bytes after END.
-    TrailingBytes,
+    TrailingBytes = 10,
     // A gate that gets no rank.
-    NoRank,
+    NoRank = 11,
     // A pose of a claim number that the sheet lacks.
-    UnknownClaim,
+    UnknownClaim = 12,
     // A pose while a claim is open.
-    ClaimOpen,
+    ClaimOpen = 13,
     // A ticket that does not fit the open claim, or no claim is open.
-    WrongTicket,
+    WrongTicket = 14,
     // A pose when 65,535 claims have been posed.
-    TallyFull,
+    TallyFull = 15,
     // A rank set in an assignment that is no input.
-    NotAnInput,
+    NotAnInput = 16,
     // A store over no slots, or over more than it takes.
-    BadSlots,
+    BadSlots = 17,
 }
 
 // Where in the verifier a fault was found.
@@ -69,43 +66,12 @@ pub struct Refusal {
 }
 
 impl Fault {
-    // The number by which users know the fault.
+    // The number by which users know the fault; no other fault has it.
     pub fn number(self) -> u8
-        ensures { result ≡ number_of self }
+        ensures value { result ≡ number_of self }
+        ensures own { (other : Fault) → number_of other ≡ result → other ≡ self }
     {
-        match self {
-            Fault::Truncated => 1,
-            Fault::UnknownCommand => 2,
-            Fault::OutOfSection => 3,
-            Fault::BadKind => 4,
-            Fault::TooMany => 5,
-            Fault::Duplicate => 6,
-            Fault::BadWord => 7,
-            Fault::NotACode => 8,
-            Fault::UnknownSignal => 9,
-            Fault::TrailingBytes => 10,
-            Fault::NoRank => 11,
-            Fault::UnknownClaim => 12,
-            Fault::ClaimOpen => 13,
-            Fault::WrongTicket => 14,
-            Fault::TallyFull => 15,
-            Fault::NotAnInput => 16,
-            Fault::BadSlots => 17,
-        }
-    }
-}
-
-// Faults are equal where their numbers are.
-impl PartialEq for Fault {
-    ghost eq = { on number_of ◌==◌ };
-
-    ghost laws = { partial_equiv_from_equiv (Prim.search (comparing, rules)) };
-
-    fn eq(&self, other: &Fault) -> bool
-        ensures numbers { result ≡ (number_of self.now == number_of other.now) }
-        ensures decides { Decides result (self.now ≡ other.now) }
-    {
-        self.number() == other.number()
+        self as u8
     }
 }
 
@@ -125,14 +91,29 @@ impl Layer {
     }
 }
 
+// A layer is printed as its word.
+impl fmt::Display for Layer {
+    ghost output = { λ l. Some (word_of l) };
+
+    fn fmt<W: fmt::Write>(&self, f: &mut fmt::Formatter<W>) -> fmt::Result {
+        f.write_str(self.word())
+    }
+}
+
 // The line that a program prints of a refusal.
 impl fmt::Display for Refusal {
     ghost output = { λ r. Some (text_of r) };
 
     fn fmt<W: fmt::Write>(&self, f: &mut fmt::Formatter<W>) -> fmt::Result {
-        let number = self.fault.number();
-        let place = self.place;
-        let layer = self.layer.word();
+        let Refusal {
+            fault,
+            place,
+            layer,
+        } = *self;
+        let number = fault.number();
         write!(f, "refused {number} at {place} layer {layer}")
     }
 }
+
+// So `?` passes a refusal on where a program collects errors.
+impl Error for Refusal {}

@@ -1,39 +1,21 @@
-use Rattle.std.proofs.Common.{◌≡◌, Bool, true, false, T, sym, refl, ◌∙◌, subst}
-use Rattle.algebra.proofs.Repeats.{doubling_starts, doubling_odd, doubling_even, doubling_ends}
+use Rattle.std.proofs.Common.{sym, rules}
+use Rattle.std.proofs.lemmas.Bool.{both_ways}
 use Rattle.algebra.proofs.Multiples.{sums, many_outside, multiples}
 use Rattle.kind.proofs.multiples.many.Goals as goal
-use Rattle.kind.proofs.multiples.many.Goals.{then-rest-eq1, else-rest-eq1}
 
-none : {b : Bool} → false ≡ b → T b → ⊥
-none e t = subst T (sym e) t
+pub returns-then-not-is_code-clause-value : goal.returns-then-not-is_code-clause-value
+returns-then-not-is_code-clause-value g c =
+    let k = c.args.kind.now in
+    sym (many_outside (g.K.Kind.ring k) (g.met.K.Kind.lawful k) c.args.times c.args.code (both_ways _ (sym c.if-not-is_code.ensures)))
 
-some : {b : Bool} → true ≡ b → T b
-some e = subst T e tt
+pub returns-then-not-is_code-clause-law : goal.returns-then-not-is_code-clause-law
+returns-then-not-is_code-clause-law g c = multiples _ (g.met.K.Kind.lawful c.args.kind.now)
 
-pub returns-then-not-is_code : goal.returns-then-not-is_code
-returns-then-not-is_code g c =
+pub returns-clause-value : goal.returns-clause-value
+returns-clause-value g c =
     let k = c.args.kind.now in
     let r = g.K.Kind.ring k in
-    let l = g.met.K.Kind.lawful k in
-    record { value = sym (many_outside r l c.args.times c.args.code (none c.if-not-is_code.ensures)); law = multiples r l }
+    c.repeated.ensures r.code r.sum (sums r (g.met.K.Kind.lawful k).laws) (λ a b x s t p. search rules) (sym c.if-not-is_code.ensures)
 
-pub loop-rest-init : goal.loop-rest-init
-loop-rest-init g c =
-    let k = c.args.kind.now in
-    doubling_starts (sums (g.K.Kind.ring k) (g.met.K.Kind.lawful k).laws) (some c.if-not-is_code.ensures) refl refl
-
-pub loop-rest-preserved : goal.loop-rest-preserved
-loop-rest-preserved g c =
-    let k = c.args.kind.now in
-    let m = sums (g.K.Kind.ring k) (g.met.K.Kind.lawful k).laws in
-    elim c.if-rest-eq1.branch [
-      | then-rest-eq1 w ↦ doubling_odd m c.loop-rest.invariant w.if-rest-eq1.true (w.sum-is ∙ w.sum-sum.ensures) c.sum-double.ensures
-      | else-rest-eq1 w ↦ doubling_even m c.loop-rest.invariant w.if-rest-eq1.false w.sum-is c.sum-double.ensures
-    ]
-
-pub returns : goal.returns
-returns g c =
-    let k = c.args.kind.now in
-    let r = g.K.Kind.ring k in
-    let l = g.met.K.Kind.lawful k in
-    record { value = doubling_ends (sums r l.laws) c.loop-rest.invariant c.loop-rest-test.false; law = multiples r l }
+pub returns-clause-law : goal.returns-clause-law
+returns-clause-law g c = multiples _ (g.met.K.Kind.lawful c.args.kind.now)
