@@ -1,4 +1,4 @@
 pub mod Worded
 pub mod Numbers
 pub mod Hashes
-pub mod Roads
+pub mod Taken

@@ -1,13 +1,23 @@
 -- Words of 64 bits as one number: what one word, or all words together, say of the number.
-use Rattle.std.proofs.Common.{◌≡◌, ℕ, zero, suc, ◌+◌, ◌-◌, ◌*◌, ◌/◌, ◌%◌, ◌^◌, ◌<◌, ◌≤◌, true, false, List, [], ◌∷◌, length, get_or, drop, set, sym, refl, ap, ◌∙◌, subst, ap₂, inl, inr, arith, pow_pos, pow-add, shr-shr}
-use lib.Bits.{bit_or, bit_and, or_block, and_block, or_lt, and_lt, or_shifted, or_zero_r}
-use lib.Count.{count_trailing_zeros, count_leading_zeros, leading_top}
-use lib.Pow.{pow-lt, shr_le}
-use Rattle.std.proofs.lemmas.List.{drop_all, drop_more, length-set, get_or-set_same, get_or-set_other, get_or_past}
-use Rattle.std.proofs.lemmas.Bool.{cases_lt, cases_eq, eq-eqb, ne_eqb, eqb-true}
-use Rattle.algebra.specs.Sets.{has, LowestFrom, Highest}
-use Rattle.algebra.proofs.Bitsets.{bit, bit_none, bit_of_or, bit_shifted, bit_part, bit_from, bit_small, has_past, top_highest, trailing_here}
-use Rattle.sets.specs.Words.{value, Sized}
+use Rattle.std.proofs.Common.{◌≡◌, ℕ, zero, suc, ◌+◌, ◌-◌, ◌*◌, ◌/◌, ◌%◌, ◌^◌, ◌<◌, ◌≤◌, Bool, false, nat_eq, not, ◌&&◌, ◌||◌, ltb, eqb, List, [], ◌∷◌, length, get_or, set, sym, refl, ap, ◌∙◌, subst, ap₂, inl, inr, arith, pow_pos, pow-add, shr-shr}
+use lib.Bits.{bit_or, bit_and, or_shifted, and_block, and_lt, and_le_l, or_lt}
+use lib.Count.{count_trailing_zeros}
+use lib.Pow.{pow-lt}
+use Rattle.std.proofs.lemmas.List.{get_or-set_other, get_or_past}
+use Rattle.std.proofs.lemmas.Grind.{get_or-set_at}
+use Rattle.std.proofs.lemmas.Bool.{and_parts, and_from, cases_lt, cases_eq, cond-true, cond-false, lt-ltb, eq-eqb, ne_eqb, eqb-true}
+use Rattle.std.proofs.lemmas.Nat.{one_shl, and-not, and_comm}
+use Rattle.std.proofs.lemmas.Nat.Bits.{and_pow}
+use Rattle.std.specs.declared.cmp.Ordering.{Ordering}
+use Rattle.std.specs.declared.cmp.Ordering.TheVariants.{Less, Equal, Greater}
+use Rattle.std.specs.Ordering.{MatchOrdering, nat_cmp}
+use Rattle.std.specs.List.{list_all, zip}
+use Rattle.std.specs.Cmp.{ranks}
+use Rattle.std.specs.Cmp.Lexicographic.{pointwise, same_text}
+use Rattle.std.proofs.lemmas.Cmp.{nat_list_eq_equiv}
+use Rattle.algebra.specs.Sets.{has, within, inserted, removed, LowestFrom, Highest, Higher}
+use Rattle.algebra.proofs.Bitsets.{bit, bit_none, bit_of_or, bit_shifted, same_tests, not_has, top_highest, trailing_here, same_from_has, lt_higher, has_or, has_none, has_inserted, has_removed, has_small, higher_lt}
+use Rattle.sets.specs.Words.{value, Sized, SameFrom}
 
 abbrev pub Words : List ℕ → Type 0
 Words xs = (k : ℕ) → get_or xs k 0 < 2 ^ 64
@@ -25,11 +35,8 @@ rest x v h = omega arith
 pub lowest_digit : (x v : ℕ) → x < 2 ^ 64 → (x + 2 ^ 64 * v) % 2 ^ 64 ≡ x
 lowest_digit x v h = omega arith
 
-place : (i j : ℕ) → 2 ^ (suc i * 64 + j) ≡ 2 ^ (i * 64 + j) * 2 ^ 64
-place i j = ap (λ x. 2 ^ x) (omega arith) ∙ pow-add 2 (i * 64 + j) 64
-
 -- rank i * 64 + j is bit j of word i
-pub value_bit : (xs : List ℕ) (i j : ℕ) → Words xs → j < 64 → bit (value xs) (i * 64 + j) ≡ bit (get_or xs i 0) j
+value_bit : (xs : List ℕ) (i j : ℕ) → Words xs → j < 64 → bit (value xs) (i * 64 + j) ≡ bit (get_or xs i 0) j
 value_bit [] i j h l = bit_none (i * 64 + j) ∙ sym (bit_none j)
 value_bit (x ∷ xs) zero j h l =
     let e : 0 * 64 + j ≡ j = omega arith in
@@ -40,8 +47,11 @@ value_bit (x ∷ xs) (suc i) j h l =
     ∙ ap (λ z. z % 2) (sym (shr-shr (value (x ∷ xs)) 64 (i * 64 + j)) ∙ ap (λ z. z / 2 ^ (i * 64 + j)) (rest x (value xs) (h 0)))
     ∙ value_bit xs i j (λ k. h (suc k)) l
 
-pub value_rank : (xs : List ℕ) (r : ℕ) → Words xs → bit (value xs) r ≡ bit (get_or xs (r / 64) 0) (r % 64)
+value_rank : (xs : List ℕ) (r : ℕ) → Words xs → bit (value xs) r ≡ bit (get_or xs (r / 64) 0) (r % 64)
 value_rank xs r h = ap (λ x. bit (value xs) x) (omega arith) ∙ value_bit xs (r / 64) (r % 64) h (omega arith)
+
+has_word : (xs : List ℕ) (r : ℕ) → Words xs → has (value xs) r ≡ has (get_or xs (r / 64) 0) (r % 64)
+has_word xs r h = ap (λ x. eqb x 1) (value_rank xs r h)
 
 value_below : (xs : List ℕ) → Words xs → value xs < 2 ^ (length xs * 64)
 value_below [] h = pow_pos (0 * 64)
@@ -55,189 +65,215 @@ value_lt xs s =
     let e : length xs * 64 ≡ 512 = omega (arith, s.0) in
     subst (λ n. value xs < 2 ^ n) e (value_below xs s.1)
 
-pub none_past : (xs : List ℕ) (r : ℕ) → Sized xs → 512 ≤ r → has (value xs) r ≡ false
-none_past xs r s l = has_past (value xs) 512 r (value_lt xs s) l
-
 -- words of one number are the same
 pub value_same : (xs ys : List ℕ) → length xs ≡ length ys → Words xs → Words ys → value xs ≡ value ys → xs ≡ ys
 value_same [] [] l h g e = refl
 value_same [] (y ∷ ys) l h g e = absurd (omega arith)
 value_same (x ∷ xs) [] l h g e = absurd (omega arith)
 value_same (x ∷ xs) (y ∷ ys) l h g e =
-    let d : x ≡ y = sym (lowest_digit x (value xs) (h 0)) ∙ ap (λ v. v % 2 ^ 64) e ∙ lowest_digit y (value ys) (g 0) in
-    let q : value xs ≡ value ys = sym (rest x (value xs) (h 0)) ∙ ap (λ v. v / 2 ^ 64) e ∙ rest y (value ys) (g 0) in
-    ap₂ (λ v vs. v ∷ vs) d (value_same xs ys (omega arith) (λ k. h (suc k)) (λ k. g (suc k)) q)
+    let first : x ≡ y = omega (arith, h 0, g 0) in
+    let others : value xs ≡ value ys = omega (arith, h 0, g 0) in
+    ap₂ (λ v vs. v ∷ vs) first (value_same xs ys (omega arith) (λ k. h (suc k)) (λ k. g (suc k)) others)
 
--- ---- one word changed
-pub sized_set : (xs : List ℕ) (i w : ℕ) → Sized xs → i < 8 → w < 2 ^ 64 → Sized (set xs i w)
-sized_set xs i w s l h = (length-set xs i w ∙ s.0, λ k. elim (cases_eq k i) [ inl e ↦ here k e | inr e ↦ there k e ])
-  where
-    here : (k : ℕ) → k ≡ i → get_or (set xs i w) k 0 < 2 ^ 64
-    here k e = omega (arith, ap (λ n. get_or (set xs i w) n 0) e, get_or-set_same xs i w 0 (omega (arith, s.0)), h)
+pub pointwise-value : (xs ys : List ℕ) → length xs ≡ length ys → Words xs → Words ys → pointwise nat_eq xs ys ≡ nat_eq (value xs) (value ys)
+pointwise-value xs ys l h g =
+    same_tests (pointwise nat_eq xs ys) (nat_eq (value xs) (value ys))
+    (λ e. eq-eqb (value xs) (value ys) (ap value (same_text xs ys (sym e))))
+    (λ e. ap (pointwise nat_eq xs) (sym (value_same xs ys l h g (eqb-true (value xs) (value ys) e))) ∙ nat_list_eq_equiv.refl xs)
 
-    there : (k : ℕ) → (k ≡ i → ⊥) → get_or (set xs i w) k 0 < 2 ^ 64
-    there k e = omega (arith, get_or-set_other xs i k w 0 e, s.1 k)
+-- ---- a rank in its word
+-- the word of rank r, and the rank's bit in it, as the code shifts it there
+abbrev pub word : List ℕ → ℕ → ℕ
+word xs r = get_or xs (r / 64) 0
 
--- one bit more in a word
-pub value_or_at : (xs : List ℕ) (i j : ℕ) → Words xs → i < length xs → j < 64 → value (set xs i (bit_or (get_or xs i 0) (2 ^ j))) ≡ bit_or (value xs) (2 ^ (i * 64 + j))
-value_or_at [] i j h l m = absurd (omega arith)
-value_or_at (x ∷ xs) zero j h l m =
-    let p : 2 ^ j < 2 ^ 64 = pow-lt m in
-    let e = or_block 64 (value xs) 0 x (2 ^ j) (h 0) p in
-    let z = or_zero_r (value xs) in
-    let o : 0 * 64 + j ≡ j = omega arith in
-    let q : 2 ^ (0 * 64 + j) ≡ 0 * 2 ^ 64 + 2 ^ j = ap (λ n. 2 ^ n) o ∙ omega arith in
-    sym (ap₂ bit_or (turned x (value xs)) q ∙ e ∙ omega arith)
-value_or_at (x ∷ xs) (suc i) j h l m =
-    let t = value_or_at xs i j (λ k. h (suc k)) (omega arith) m in
-    let e = or_block 64 (value xs) (2 ^ (i * 64 + j)) x 0 (h 0) (omega arith) in
-    let z = or_zero_r x in
-    let q : 2 ^ (suc i * 64 + j) ≡ 2 ^ (i * 64 + j) * 2 ^ 64 + 0 = omega (arith, place i j) in
-    sym (ap₂ bit_or (turned x (value xs)) q ∙ e ∙ omega arith)
+abbrev pub flag : ℕ → ℕ
+flag r = 1 * 2 ^ (r % 64) % 2 ^ 64
 
--- one bit less in a word
-pub value_less_at : (xs : List ℕ) (i j y : ℕ) → i < length xs → y + 2 ^ j ≡ get_or xs i 0 → value (set xs i y) + 2 ^ (i * 64 + j) ≡ value xs
-value_less_at [] i j y l e = absurd (omega arith)
-value_less_at (x ∷ xs) zero j y l e = let q : 2 ^ (0 * 64 + j) ≡ 2 ^ j = ap (λ n. 2 ^ n) (omega arith) in omega arith
-value_less_at (x ∷ xs) (suc i) j y l e =
-    let t = value_less_at xs i j y (omega arith) e in
-    omega (arith, place i j)
+flag_is : (r : ℕ) → flag r ≡ 2 ^ (r % 64)
+flag_is r = one_shl (r % 64) 64 (omega arith)
 
-pub held_word : (xs : List ℕ) (r : ℕ) → Words xs → has (value xs) r ≡ true → 2 ^ (r % 64) ≤ get_or xs (r / 64) 0
-held_word xs r h e = bit_part (get_or xs (r / 64) 0) (r % 64) (sym (value_rank xs r h) ∙ eqb-true (bit (value xs) r) 1 e)
+not_zero : (b p : ℕ) → b < 2 → 0 < p → not (nat_eq (b * p) 0) ≡ nat_eq b 1
+not_zero zero p l h = ap not (eq-eqb (0 * p) 0 (omega arith))
+not_zero (suc zero) p l h = ap not (ne_eqb (1 * p) 0 (λ e. omega arith))
+not_zero (suc (suc b)) p l h = absurd (omega arith)
+
+pub value_has : (xs : List ℕ) (r : ℕ) → Words xs → not (nat_eq (bit_and (word xs r) (flag r)) 0) ≡ has (value xs) r
+value_has xs r h =
+    ap (λ x. not (nat_eq x 0)) (ap (bit_and (word xs r)) (flag_is r) ∙ and_pow (word xs r) (r % 64))
+    ∙ not_zero (bit (word xs r) (r % 64)) (2 ^ (r % 64)) (omega arith) (pow_pos (r % 64)) ∙ sym (has_word xs r h)
+
+set_fits : (xs : List ℕ) (i w : ℕ) → Words xs → i < length xs → w < 2 ^ 64 → Words (set xs i w)
+set_fits xs i w h l g = λ k. elim (cases_eq k i) [
+  | inl e ↦ omega (arith, get_or-set_at xs i k w 0 e l, g)
+  | inr e ↦ omega (arith, get_or-set_other xs i k w 0 e, h k)
+]
+
+same_test : (k r : ℕ) → k / 64 ≡ r / 64 → eqb (k % 64) (r % 64) ≡ eqb k r
+same_test k r e = elim (cases_eq k r) [
+  | inl d ↦ eq-eqb (k % 64) (r % 64) (ap (λ n. n % 64) d) ∙ sym (eq-eqb k r d)
+  | inr d ↦ ne_eqb (k % 64) (r % 64) (λ q. d (omega arith)) ∙ sym (ne_eqb k r d)
+]
+
+-- where op changes one rank of a number as f says, it does so in the rank's word
+module _ (op : ℕ → ℕ → ℕ) (f : Bool → Bool → Bool) where
+  abbrev ChangesRank : Type 0
+  ChangesRank = ((S r k : ℕ) → r < 512 → has (op S r) k ≡ f (eqb k r) (has S k)) × ((b : Bool) → f false b ≡ b)
+
+  value_set : ChangesRank → (xs : List ℕ) (r w : ℕ) → Sized xs → r < 512 → w < 2 ^ 64 → w ≡ op (word xs r) (r % 64)
+      → value (set xs (r / 64) w) ≡ op (value xs) r
+  value_set c xs r w s l h e =
+      let i : r / 64 < length xs = omega (arith, s.0) in
+      let ys = set xs (r / 64) w in
+      let fits = set_fits xs (r / 64) w s.1 i h in
+      same_from_has (value ys) (op (value xs) r) (λ k. has_word ys k fits ∙ elim (cases_eq (k / 64) (r / 64)) [
+        | inl d ↦
+            ap (λ x. has x (k % 64)) (get_or-set_at xs (r / 64) (k / 64) w 0 d i ∙ e)
+            ∙ c.0 (word xs r) (r % 64) (k % 64) (omega arith)
+            ∙ ap₂ f (same_test k r d) (ap (λ n. has (get_or xs n 0) (k % 64)) (sym d) ∙ sym (has_word xs k s.1))
+            ∙ sym (c.0 (value xs) r k l)
+        | inr d ↦
+            ap (λ x. has x (k % 64)) (get_or-set_other xs (r / 64) (k / 64) w 0 d)
+            ∙ sym (has_word xs k s.1) ∙ sym (c.1 (has (value xs) k))
+            ∙ ap (λ b. f b (has (value xs) k)) (sym (ne_eqb k r (λ q. d (ap (λ n. n / 64) q))))
+            ∙ sym (c.0 (value xs) r k l)
+      ])
+
+word_inserted : (w j : ℕ) → j < 64 → bit_or w (2 ^ j) ≡ inserted w j
+word_inserted w j l = sym (cond-true (ltb j 512) (bit_or w (2 ^ j)) w (lt-ltb j 512 (omega arith)))
+
+pub value_insert : (xs : List ℕ) (r : ℕ) → Sized xs → r < 512 → value (set xs (r / 64) (bit_or (word xs r) (flag r))) ≡ inserted (value xs) r
+value_insert xs r s l =
+    value_set inserted (λ x y. x || y) (has_inserted, λ b. refl) xs r (bit_or (word xs r) (flag r)) s l
+    (or_lt 64 (word xs r) (flag r) (s.1 (r / 64)) (omega arith))
+    (ap (bit_or (word xs r)) (flag_is r) ∙ word_inserted (word xs r) (r % 64) (omega arith))
+
+word_removed : (w j : ℕ) → w < 2 ^ 64 → j < 64 → bit_and w (2 ^ 64 - 1 - 2 ^ j) ≡ removed w j
+word_removed w j h l =
+    let less : bit_and w (2 ^ 64 - 1 - 2 ^ j) + bit_and w (2 ^ j) ≡ w =
+    omega (arith, and-not 64 (2 ^ j) w (pow-lt l) h, and_comm w (2 ^ 64 - 1 - 2 ^ j), and_comm w (2 ^ j)) in
+    elim (cases_eq (bit w j) 1) [
+      | inl e ↦
+          let here : bit_and w (2 ^ j) ≡ 2 ^ j = and_pow w j ∙ ap (λ b. b * 2 ^ j) e ∙ omega arith in
+          omega arith ∙ sym (cond-true (has w j) (w - 2 ^ j) w (eq-eqb (bit w j) 1 e))
+      | inr e ↦
+          let none : bit w j ≡ 0 = omega (arith, e) in
+          let here : bit_and w (2 ^ j) ≡ 0 = and_pow w j ∙ ap (λ b. b * 2 ^ j) none ∙ omega arith in
+          omega arith ∙ sym (cond-false (has w j) (w - 2 ^ j) w (ne_eqb (bit w j) 1 e))
+    ]
+
+pub value_remove : (xs : List ℕ) (r : ℕ) → Sized xs → r < 512 → value (set xs (r / 64) (bit_and (word xs r) (2 ^ 64 - 1 - flag r))) ≡ removed (value xs) r
+value_remove xs r s l =
+    value_set removed (λ x y. not x && y) (λ S r k _. has_removed S r k, λ b. refl) xs r (bit_and (word xs r) (2 ^ 64 - 1 - flag r)) s l
+    (omega (arith, and_le_l (word xs r) (2 ^ 64 - 1 - flag r), s.1 (r / 64)))
+    (ap (λ x. bit_and (word xs r) (2 ^ 64 - 1 - x)) (flag_is r) ∙ word_removed (word xs r) (r % 64) (s.1 (r / 64)) (omega arith))
 
 -- ---- word by word
-module _ (op : ℕ → ℕ → ℕ) where
-  -- op goes word by word
-  pub record Blockwise : Type 0 where
-    pub none : op 0 0 ≡ 0
-    pub below : (r s : ℕ) → r < 2 ^ 64 → s < 2 ^ 64 → op r s < 2 ^ 64
-    pub blocks : (a b r s : ℕ) → r < 2 ^ 64 → s < 2 ^ 64 → op (a * 2 ^ 64 + r) (b * 2 ^ 64 + s) ≡ op a b * 2 ^ 64 + op r s
+pub value_or : (xs ys zs : List ℕ) → Words xs → Words ys → ((k : ℕ) → get_or zs k 0 ≡ bit_or (get_or xs k 0) (get_or ys k 0))
+    → value zs ≡ bit_or (value xs) (value ys)
+value_or xs ys zs h g e =
+    let fits : Words zs = λ k. omega (arith, e k, or_lt 64 (get_or xs k 0) (get_or ys k 0) (h k) (g k)) in
+    same_from_has (value zs) (bit_or (value xs) (value ys)) (λ r.
+    has_word zs r fits ∙ ap (λ w. has w (r % 64)) (e (r / 64)) ∙ has_or (word xs r) (word ys r) (r % 64)
+    ∙ sym (has_or (value xs) (value ys) r ∙ ap₂ (λ x y. x || y) (has_word xs r h) (has_word ys r g)))
 
-  abbrev pub Wordwise : List ℕ → List ℕ → List ℕ → Type 0
-  Wordwise xs ys zs = (k : ℕ) → k < length xs → get_or zs k 0 ≡ op (get_or xs k 0) (get_or ys k 0)
+within_cons : (x y v u : ℕ) → x < 2 ^ 64 → y < 2 ^ 64 → (within x y && within v u) ≡ within (x + 2 ^ 64 * v) (y + 2 ^ 64 * u)
+within_cons x y v u h g =
+    let small = and_lt 64 x y h g in
+    let parts : bit_and (x + 2 ^ 64 * v) (y + 2 ^ 64 * u) ≡ bit_and x y + 2 ^ 64 * bit_and v u =
+    ap₂ bit_and (turned x v) (turned y u) ∙ and_block 64 v u x y h g ∙ omega arith in
+    same_tests (within x y && within v u) (within (x + 2 ^ 64 * v) (y + 2 ^ 64 * u))
+    (λ e. let p = and_parts (within x y) (within v u) e in
+    let a = eqb-true (bit_and x y) x p.0 in
+    let b = eqb-true (bit_and v u) v p.1 in
+    eq-eqb (bit_and (x + 2 ^ 64 * v) (y + 2 ^ 64 * u)) (x + 2 ^ 64 * v) (omega (arith, parts, a, b)))
+    (λ e. let p = eqb-true (bit_and (x + 2 ^ 64 * v) (y + 2 ^ 64 * u)) (x + 2 ^ 64 * v) e in
+    let a : bit_and x y ≡ x = omega (arith, parts, p, small) in
+    let b : bit_and v u ≡ v = omega (arith, parts, p, small) in
+    and_from (within x y) (within v u) (eq-eqb (bit_and x y) x a) (eq-eqb (bit_and v u) v b))
 
-  pub value_wordwise : Blockwise → (xs ys zs : List ℕ) → length ys ≡ length xs → length zs ≡ length xs → Words xs → Words ys → Wordwise xs ys zs → value zs ≡ op (value xs) (value ys)
-  value_wordwise b [] [] [] l m h g f = sym b.none
-  value_wordwise b [] [] (z ∷ zs) l m h g f = absurd (omega arith)
-  value_wordwise b [] (y ∷ ys) zs l m h g f = absurd (omega arith)
-  value_wordwise b (x ∷ xs) [] zs l m h g f = absurd (omega arith)
-  value_wordwise b (x ∷ xs) (y ∷ ys) [] l m h g f = absurd (omega arith)
-  value_wordwise b (x ∷ xs) (y ∷ ys) (z ∷ zs) l m h g f =
-      let t = value_wordwise b xs ys zs (omega arith) (omega arith) (λ k. h (suc k)) (λ k. g (suc k)) (λ k p. f (suc k) (omega arith)) in
-      let e = b.blocks (value xs) (value ys) x y (h 0) (g 0) in
-      let d : z ≡ op x y = f 0 (omega arith) in
-      sym (ap₂ op (turned x (value xs)) (turned y (value ys)) ∙ e ∙ omega arith)
+pub list_all-within : (xs ys : List ℕ) → length xs ≡ length ys → Words xs → Words ys
+    → list_all (λ p. within p.0 p.1) (zip xs ys) ≡ within (value xs) (value ys)
+list_all-within [] [] l h g = refl
+list_all-within [] (y ∷ ys) l h g = absurd (omega arith)
+list_all-within (x ∷ xs) [] l h g = absurd (omega arith)
+list_all-within (x ∷ xs) (y ∷ ys) l h g =
+    ap (λ b. within x y && b) (list_all-within xs ys (omega arith) (λ k. h (suc k)) (λ k. g (suc k)))
+    ∙ within_cons x y (value xs) (value ys) (h 0) (g 0)
 
-  pub sized_wordwise : Blockwise → (xs ys zs : List ℕ) → Sized xs → Sized ys → length zs ≡ 8 → Wordwise xs ys zs → Sized zs
-  sized_wordwise b xs ys zs s t l f = (l, λ k. elim (cases_lt k 8) [ inl g ↦ here k g | inr g ↦ omega (arith, get_or_past zs k 0 (omega arith)) ])
-    where
-      here : (k : ℕ) → k < 8 → get_or zs k 0 < 2 ^ 64
-      here k g = omega (arith, f k (omega (arith, s.0)), b.below (get_or xs k 0) (get_or ys k 0) (s.1 k) (t.1 k))
+-- ---- the lowest and the highest rank, and where two sets differ
+pub none_here : (xs : List ℕ) → ((k : ℕ) → k < length xs → get_or xs k 0 ≡ 0) → value xs ≡ 0
+none_here [] z = refl
+none_here (x ∷ xs) z = omega (arith, z 0 (omega arith), none_here xs (λ k l. z (suc k) (omega arith)))
 
-pub or_blockwise : Blockwise bit_or
-or_blockwise = record { none = refl; below = or_lt 64; blocks = or_block 64 }
-
-pub and_blockwise : Blockwise bit_and
-and_blockwise = record { none = refl; below = and_lt 64; blocks = and_block 64 }
-
--- ---- the highest word in which two sets differ decides
-pub value_less : (xs ys : List ℕ) (i : ℕ) → length xs ≡ length ys → i < length xs → drop (suc i) xs ≡ drop (suc i) ys → get_or xs i 0 < get_or ys i 0 → Words xs → value xs < value ys
-value_less [] ys i l w e h f = absurd (omega arith)
-value_less (x ∷ xs) [] i l w e h f = absurd (omega arith)
-value_less (x ∷ xs) (y ∷ ys) zero l w e h f = let q = ap value e in omega arith
-value_less (x ∷ xs) (y ∷ ys) (suc i) l w e h f =
-    let r = value_less xs ys i (omega arith) (omega arith) e h (λ k. f (suc k)) in
-    let b = f 0 in omega arith
-
-pub same_from : (xs ys : List ℕ) (i j : ℕ) → j ≡ i + 1 → i < length xs → i < length ys → get_or xs i 0 ≡ get_or ys i 0 → drop j xs ≡ drop j ys → drop i xs ≡ drop i ys
-same_from xs ys i j p l m h e =
-    drop_more xs i 0 l ∙ ap (λ x. x ∷ drop (i + 1) xs) h ∙ ap (λ u. get_or ys i 0 ∷ u) (ap (λ n. drop n xs) (sym p) ∙ e ∙ ap (λ n. drop n ys) p) ∙ sym (drop_more ys i 0 m)
-
-pub same_end : (xs ys : List ℕ) (n : ℕ) → length xs ≡ n → length ys ≡ n → drop n xs ≡ drop n ys
-same_end xs ys n l m = drop_all n xs (omega arith) ∙ sym (drop_all n ys (omega arith))
-
--- ---- the highest word that is not 0
-value_top : (xs : List ℕ) (i j : ℕ) → Words xs → i < length xs → value (drop (i + 1) xs) ≡ 0 → 2 ^ j ≤ get_or xs i 0 → get_or xs i 0 < 2 ^ suc j
-    → (2 ^ (i * 64 + j) ≤ value xs) × (value xs < 2 ^ suc (i * 64 + j))
-value_top [] i j h l z p q = absurd (omega arith)
-value_top (x ∷ xs) zero j h l z p q =
-    let e : 2 ^ (0 * 64 + j) ≡ 2 ^ j = ap (λ n. 2 ^ n) (omega arith) in
-    (omega arith, omega arith)
-value_top (x ∷ xs) (suc i) j h l z p q =
-    let o : suc (i + 1) ≡ suc i + 1 = omega arith in
-    let e : value (drop (i + 1) xs) ≡ 0 = ap (λ n. value (drop n (x ∷ xs))) o ∙ z in
-    let t = value_top xs i j (λ k. h (suc k)) (omega arith) e p q in
-    (omega (arith, place i j, t.0), omega (arith, place i j, t.1, h 0))
-
-pub highest_here : (xs : List ℕ) (i : ℕ) → Words xs → 0 < i → i ≤ length xs → value (drop i xs) ≡ 0 → (get_or xs (i - 1) 0 ≡ 0 → ⊥) → Highest (value xs) ((i - 1) * 64 + 63 - count_leading_zeros 64 (get_or xs (i - 1) 0))
-highest_here xs i f p l z n =
-    let a = get_or xs (i - 1) 0 in
-    let t = leading_top 64 a (omega arith) (f (i - 1)) in
-    let o : (i - 1) * 64 + t.0 ≡ (i - 1) * 64 + 63 - count_leading_zeros 64 a = omega (arith, t.1) in
-    let q : i ≡ i - 1 + 1 = omega arith in
-    let e : value (drop (i - 1 + 1) xs) ≡ 0 = ap (λ k. value (drop k xs)) (sym q) ∙ z in
-    let v = value_top xs (i - 1) t.0 f (omega arith) e t.2 t.3 in
-    subst (λ r. Highest (value xs) r) o (top_highest (value xs) ((i - 1) * 64 + t.0) v.0 v.1)
-
-pub highest_lower : (xs : List ℕ) (i : ℕ) → 0 < i → i ≤ length xs → value (drop i xs) ≡ 0 → get_or xs (i - 1) 0 ≡ 0 → value (drop (i - 1) xs) ≡ 0
-highest_lower xs i p l z n =
-    let q : i ≡ i - 1 + 1 = omega arith in
-    let e : value (drop (i - 1 + 1) xs) ≡ 0 = ap (λ k. value (drop k xs)) (sym q) ∙ z in
-    ap value (drop_more xs (i - 1) 0 (omega arith)) ∙ omega arith
-
--- ---- the lowest rank from one on: word i from its bit j on
-pub none_word : (xs : List ℕ) (i j : ℕ) → Words xs → get_or xs i 0 / 2 ^ j ≡ 0 → (k : ℕ) → i * 64 + j ≤ k → k < i * 64 + 64 → has (value xs) k ≡ false
-none_word xs i j h z k g l =
-    let m = k - (i * 64 + j) in
-    let o : k ≡ i * 64 + (j + m) = omega arith in
-    let b = value_bit xs i (j + m) h (omega arith) in
-    let f = bit_from (get_or xs i 0) j m in
-    let n = ap (λ x. bit x m) z ∙ bit_none m in
-    let t = ap (λ x. bit (value xs) x) o in
-    ne_eqb (bit (value xs) k) 1 (λ e. omega arith)
-
-low_word : (xs : List ℕ) (i j : ℕ) → Words xs → 0 < get_or xs i 0 / 2 ^ j → LowestFrom (i * 64 + j) (value xs) (i * 64 + j + count_trailing_zeros 64 (get_or xs i 0 / 2 ^ j))
-low_word xs i j h p =
-    let x = get_or xs i 0 in
-    let a = x / 2 ^ j in
-    let s : a < 2 ^ 64 = omega (arith, shr_le x j, h i) in
-    let r = trailing_here 64 a p s in
-    let t = count_trailing_zeros 64 a in
-    let b : bit x (j + t) ≡ 1 = sym (bit_from x j t) ∙ r.1 in
-    let u : j + t < 64 = bit_small x 64 (j + t) (h i) b in
-    let o : i * 64 + j + t ≡ i * 64 + (j + t) = omega arith in (
+pub lowest_here : (xs : List ℕ) (i : ℕ) → Words xs → 0 < get_or xs i 0 → ((k : ℕ) → k < i → get_or xs k 0 ≡ 0)
+    → LowestFrom 0 (value xs) (i * 64 + count_trailing_zeros 64 (get_or xs i 0))
+lowest_here xs i h p z =
+    let t = trailing_here 64 (get_or xs i 0) p (h i) in
+    let n = count_trailing_zeros 64 (get_or xs i 0) in (
       omega arith,
-      eq-eqb (bit (value xs) (i * 64 + j + t)) 1 (ap (λ k. bit (value xs) k) o ∙ value_bit xs i (j + t) h u ∙ b),
-      λ k g l. under_low k g l u (λ m q. r.2 m q),
+      eq-eqb (bit (value xs) (i * 64 + n)) 1 (value_bit xs i n h t.0 ∙ t.1),
+      λ k g l. not_has (value xs) k (value_rank xs k h ∙ elim (cases_lt (k / 64) i) [
+        | inl d ↦ ap (λ w. bit w (k % 64)) (z (k / 64) d) ∙ bit_none (k % 64)
+        | inr d ↦
+            let e : k / 64 ≡ i = omega (arith, t.0) in
+            ap (λ q. bit (get_or xs q 0) (k % 64)) e ∙ t.2 (k % 64) (omega arith)
+      ]),
+    )
+
+pub highest_here : (xs : List ℕ) (i j : ℕ) → Sized xs → j < 64 → 2 ^ j ≤ get_or xs i 0 → get_or xs i 0 < 2 * 2 ^ j
+    → ((k : ℕ) → i < k → k < 8 → get_or xs k 0 ≡ 0) → Highest (value xs) (i * 64 + j)
+highest_here xs i j s l p q z =
+    let t = top_highest (get_or xs i 0) j p (omega (arith, q)) in (
+      ap (λ x. eqb x 1) (value_bit xs i j s.1 l) ∙ t.0,
+      λ k g. has_word xs k s.1 ∙ elim (cases_lt i (k / 64)) [
+        | inl d ↦ ap (λ w. has w (k % 64)) (above (k / 64) d) ∙ has_none (k % 64)
+        | inr d ↦
+            let e : k / 64 ≡ i = omega arith in
+            ap (λ n. has (get_or xs n 0) (k % 64)) e ∙ t.1 (k % 64) (omega arith)
+      ],
     )
   where
-    under_low : (k : ℕ) → i * 64 + j ≤ k → k < i * 64 + j + count_trailing_zeros 64 (get_or xs i 0 / 2 ^ j) → j + count_trailing_zeros 64 (get_or xs i 0 / 2 ^ j) < 64
-        → ((m : ℕ) → m < count_trailing_zeros 64 (get_or xs i 0 / 2 ^ j) → bit (get_or xs i 0 / 2 ^ j) m ≡ 0) → has (value xs) k ≡ false
-    under_low k g l u f =
-        let m = k - (i * 64 + j) in
-        let o : k ≡ i * 64 + (j + m) = omega arith in
-        let b = value_bit xs i (j + m) h (omega arith) in
-        let q = bit_from (get_or xs i 0) j m in
-        let n = f m (omega arith) in
-        let t = ap (λ x. bit (value xs) x) o in
-        ne_eqb (bit (value xs) k) 1 (λ e. omega arith)
+    above : (k : ℕ) → i < k → get_or xs k 0 ≡ 0
+    above k d = elim (cases_lt k 8) [ inl h ↦ z k d h | inr h ↦ get_or_past xs k 0 (omega (arith, s.0)) ]
 
--- the first word, from the rank m on
-pub lowest_first : (xs : List ℕ) (m : ℕ) → Words xs → (get_or xs (m / 64) 0 / 2 ^ (m % 64) ≡ 0 → ⊥) → LowestFrom m (value xs) (m + count_trailing_zeros 64 (get_or xs (m / 64) 0 / 2 ^ (m % 64)))
-lowest_first xs m f n =
-    let o : m / 64 * 64 + m % 64 ≡ m = omega arith in
-    subst (λ k. LowestFrom k (value xs) (k + count_trailing_zeros 64 (get_or xs (m / 64) 0 / 2 ^ (m % 64)))) o (low_word xs (m / 64) (m % 64) f (omega arith))
-
--- a later word
-pub lowest_later : (xs : List ℕ) (m i : ℕ) → Words xs → (get_or xs i 0 ≡ 0 → ⊥) → m ≤ i * 64 → ((k : ℕ) → m ≤ k → k < i * 64 → has (value xs) k ≡ false) → LowestFrom m (value xs) (i * 64 + count_trailing_zeros 64 (get_or xs i 0))
-lowest_later xs m i f n l g =
-    let d : get_or xs i 0 / 2 ^ 0 ≡ get_or xs i 0 = omega arith in
-    let p : 0 < get_or xs i 0 / 2 ^ 0 = omega arith in
-    let w = low_word xs i 0 f p in
-    let o : i * 64 + 0 + count_trailing_zeros 64 (get_or xs i 0 / 2 ^ 0) ≡ i * 64 + count_trailing_zeros 64 (get_or xs i 0) = omega (arith, ap (count_trailing_zeros 64) d) in
-    let r = i * 64 + count_trailing_zeros 64 (get_or xs i 0) in (
-      omega arith,
-      subst (λ x. has (value xs) x ≡ true) o w.1,
-      λ k h u. elim (cases_lt k (i * 64)) [ inl b ↦ g k h b | inr b ↦ w.2 k (omega arith) (omega arith) ],
+-- ---- where sets differ in word i and in none above, that word decides
+higher_here : (xs ys : List ℕ) (i : ℕ) → Sized xs → Sized ys → SameFrom (i + 1) xs ys → get_or ys i 0 < get_or xs i 0 → Higher (value xs) (value ys)
+higher_here xs ys i s t f l =
+    let (j, h) = lt_higher (get_or xs i 0) (get_or ys i 0) l in
+    let b : j < 64 = has_small (get_or xs i 0) 64 j (s.1 i) h.0 in (
+      i * 64 + j,
+      (
+        ap (λ x. eqb x 1) (value_bit xs i j s.1 b) ∙ h.0,
+        ap (λ x. eqb x 1) (value_bit ys i j t.1 b) ∙ h.1,
+        λ k g. has_word xs k s.1 ∙ elim (cases_lt i (k / 64)) [
+          | inl d ↦ ap (λ w. has w (k % 64)) (above (k / 64) d)
+          | inr d ↦
+              let e : k / 64 ≡ i = omega arith in
+              ap (λ n. has (get_or xs n 0) (k % 64)) e ∙ h.2 (k % 64) (omega arith) ∙ ap (λ n. has (get_or ys n 0) (k % 64)) (sym e)
+        ] ∙ sym (has_word ys k t.1),
+      ),
     )
+  where
+    above : (k : ℕ) → i < k → get_or xs k 0 ≡ get_or ys k 0
+    above k d = elim (cases_lt k 8) [
+      | inl h ↦ f k (omega arith) h
+      | inr h ↦ get_or_past xs k 0 (omega (arith, s.0)) ∙ sym (get_or_past ys k 0 (omega (arith, t.0)))
+    ]
+
+abbrev pub RanksDecide : Ordering → ℕ → ℕ → Type 0
+RanksDecide o A B = MatchOrdering o (Higher B A) (A ≡ B) (Higher A B)
+
+pub decided_here : (xs ys : List ℕ) (i : ℕ) → Sized xs → Sized ys → SameFrom (i + 1) xs ys → (get_or xs i 0 ≡ get_or ys i 0 → ⊥)
+    → RanksDecide (nat_cmp (get_or xs i 0) (get_or ys i 0)) (value xs) (value ys)
+decided_here xs ys i s t f n = go (nat_cmp (get_or xs i 0) (get_or ys i 0)) (ranks (get_or xs i 0) (get_or ys i 0))
+  where
+    go : (o : Ordering) → MatchOrdering o (get_or xs i 0 < get_or ys i 0) (get_or xs i 0 ≡ get_or ys i 0) (get_or ys i 0 < get_or xs i 0)
+        → RanksDecide o (value xs) (value ys)
+    go Less l = higher_here ys xs i t s (λ k g h. sym (f k g h)) l
+    go Equal e = absurd (n e)
+    go Greater l = higher_here xs ys i s t f l
+
+pub numbers_decide : (o : Ordering) (A B : ℕ) → RanksDecide o A B → MatchOrdering o (A < B) (A ≡ B) (B < A)
+numbers_decide Less A B h = higher_lt B A h
+numbers_decide Equal A B e = e
+numbers_decide Greater A B h = higher_lt A B h

@@ -1,5 +1,4 @@
 pub mod Words
 pub mod Numbers
-pub mod HighWords
 pub mod Ranks
 pub mod Hash

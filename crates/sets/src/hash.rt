@@ -1,9 +1,9 @@
 // A hash of a set, by its words.
 ghost use Rattle.std.specs.Prelude.{◌≡◌};
-ghost use Rattle.sets.specs.Hash.{spread as spread_of, mix as mixed, hashed, hash as hash_of};
+ghost use Rattle.sets.specs.Hash.{spread as spread_of, mix as mixed, hash as hash_of};
 ghost use Rattle.sets.specs.Numbers.{number};
 
-use super::{RankSet, WORDS};
+use super::RankSet;
 
 const MULTIPLIER: u64 = 0x9E37_79B9_7F4A_7C15;
 
@@ -11,18 +11,7 @@ impl RankSet {
     pub fn hash(&self) -> u64
         ensures { result ≡ hash_of (number self.now) }
     {
-        self.hash_after(0)
-    }
-
-    // The words taken into a hash, the lowest first.
-    fn hash_after(&self, start: u64) -> u64
-        ensures { result ≡ hashed 8 start (number self.now) }
-    {
-        let mut h = start;
-        for i in 0..WORDS {
-            h = mix(h, self.words[i]);
-        }
-        h
+        self.words.iter().copied().fold(0, mix)
     }
 }
 

@@ -12,9 +12,10 @@ const RANKS: u16 = 512;
 
 const WORDS: usize = 8;
 
-// Bit r % 64 of word r / 64 stands for rank r.
-#[derive(Clone, Copy)]
+// Bit r % 64 of word r / 64 stands for rank r. A ghost field, and no `impl Model` with the number as its value: so the laws of the stores,
+// which speak of values alone, know of each set that its number is below 2^512.
+#[derive(Clone, Copy, Debug)]
 pub struct RankSet {
-    words: [u64; 8],
+    words: [u64; WORDS],
     ghost sized: { Sized words },
 }

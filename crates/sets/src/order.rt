@@ -1,9 +1,9 @@
 // Sets are equal, and are ordered, as their numbers: the higher of two has the highest rank in which they differ.
-ghost use Rattle.std.specs.Prelude.{◌≡◌, ◌<◌, Some, MatchOption, ◌==◌, refl};
+ghost use Rattle.std.specs.Prelude.{◌≡◌, ◌≢◌, ◌+◌, ◌<◌, Some, IfNone, IfSome, slice_index, ◌==◌, refl};
 ghost use Rattle.std.specs.Ordering.{MatchOrdering, nat_cmp};
 ghost use Rattle.algebra.specs.Sets.{Higher};
 ghost use Rattle.sets.specs.Numbers.{number};
-ghost use Rattle.sets.specs.HighWords.{Decisive};
+ghost use Rattle.sets.specs.Words.{SameFrom};
 ghost use Rattle.std.specs.Cmp.Rules.{comparing};
 ghost use Rattle.std.proofs.Common.{rules};
 ghost use Rattle.std.specs.Cmp.{partial_equiv_from_equiv, partial_order_from_agreeing_total};
@@ -12,7 +12,7 @@ use super::{RankSet, WORDS};
 use std::cmp::Ordering;
 
 impl RankSet {
-    // The second clause says in ranks what the first says in numbers.
+    // What `cmp` answers. The second clause says in ranks what the first says in numbers.
     pub fn compare(&self, other: &RankSet) -> Ordering
         ensures numbers { MatchOrdering result (number self.now < number other.now) (number self.now ≡ number other.now) (number other.now < number self.now) }
         ensures ranks { MatchOrdering result (Higher (number other.now) (number self.now)) (number self.now ≡ number other.now) (Higher (number self.now) (number other.now)) }
@@ -25,24 +25,23 @@ impl RankSet {
 
     // The highest word in which two sets differ.
     fn differing_word(&self, other: &RankSet) -> Option<usize>
-        ensures { MatchOption result (number self.now ≡ number other.now) (λ i. Decisive i self.now other.now) }
+        ensures same { IfNone result (SameFrom 0 self.now.words other.now.words) }
+        ensures in_range { IfSome result (λ i. i < 8) }
+        ensures differs { IfSome result (λ i. slice_index self.now.words i ≢ slice_index other.now.words i) }
+        ensures same_above { IfSome result (λ i. SameFrom (i + 1) self.now.words other.now.words) }
     {
-        for i in (0..WORDS).rev() {
-            if self.words[i] != other.words[i] {
-                return Some(i);
-            }
-        }
-        None
+        (0..WORDS).rev().find(|&i| self.words[i] != other.words[i])
     }
 }
 
+// By hand: a derived order would compare the lowest word first, and a derived `==` would promise equal words, where callers know numbers.
 impl PartialEq for RankSet {
     ghost eq = { λ a b. number a == number b };
 
     ghost laws = { partial_equiv_from_equiv (Prim.search (comparing, rules)) };
 
     fn eq(&self, other: &RankSet) -> bool {
-        self.compare(other).is_eq()
+        self.words == other.words
     }
 }
 
@@ -56,7 +55,7 @@ impl PartialOrd for RankSet {
     ghost laws = { partial_order_from_agreeing_total (λ a b. nat_cmp (number a) (number b)) (Prim.search (comparing, rules)) (λ _ _. refl) (Prim.search (comparing, rules)) };
 
     fn partial_cmp(&self, other: &RankSet) -> Option<Ordering> {
-        Some(self.compare(other))
+        Some(self.cmp(other))
     }
 }
 

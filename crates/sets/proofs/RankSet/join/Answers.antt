@@ -1,0 +1,15 @@
+use Rattle.std.proofs.Common.{rules, arith, inl, inr}
+use Rattle.std.proofs.lemmas.Bool.{cases_lt}
+use Rattle.std.proofs.lemmas.Grind.{common_steps}
+use Rattle.sets.proofs.Worded.{value_or}
+use Rattle.sets.proofs.RankSet.join.Goals as goal
+
+pub invariant_of-self : goal.invariant_of-self
+invariant_of-self c = record { sized = (c.from_fn-self.ensures.items.long, λ k. grind (arith, common_steps)) }
+
+pub returns : goal.returns
+returns c =
+    let s = c.args.self.now in
+    let t = c.args.other.now in
+    value_or s.words t.words c.from_fn-self.result s.sized.1 t.sized.1
+    (λ k. elim (cases_lt k 8) [ inl l ↦ search rules | inr l ↦ grind (arith, common_steps) ])

@@ -1,8 +1,0 @@
-use Rattle.std.proofs.Common.{◌≡◌, ℕ, ◌<◌, length, get_or}
-use lib.Bits.{bit_or}
-use Rattle.sets.proofs.RankSet.joined.Given as goal
-
-abbrev pub invariant-loop-i : goal.invariant-loop-i
-invariant-loop-i l =
-    (length l.words ≡ 8)
-    × ((k : ℕ) → k < l.i → get_or l.words k 0 ≡ bit_or (get_or l.self.words k 0) (get_or l.other.words k 0))
