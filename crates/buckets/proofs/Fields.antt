@@ -1,11 +1,13 @@
 -- One record of a list changed: what each of its fields then lists.
 use Rattle.std.proofs.Common.{◌≡◌, ℕ, ◌<◌, List, length, get_or, set, Some, None, Option, sym, refl, ap, ◌∙◌, arith, length-set}
-use Rattle.std.proofs.lemmas.List.{map-set, set-get_or, get_or-map, length-map}
+use Rattle.std.proofs.lemmas.List.{get_or-set_same, get_or-set_other, map-set, set-get_or, get_or-map, length-map}
 use Rattle.algebra.specs.Gathered.{set_at, number_at}
 use Rattle.sets.specs.Numbers.{number}
 use Rattle.buckets.specs.declared.term.Term.{Term}
-use Rattle.buckets.specs.Chains.{link, relinked_firsts, relinked_nexts}
-use Rattle.buckets.specs.Records.{content_of, contents, firsts, nexts, spares, TakenBy, Released, Relinked}
+use Rattle.buckets.specs.Records.{content_of, contents, firsts, nexts, spares}
+
+-- the library's lemmas on a list with one element changed
+pub ruleset on_set = (length-set, get_or-set_same, get_or-set_other)
 
 -- ---- how many
 pub length_contents : (xs : List Term) → length (contents xs) ≡ length xs
@@ -40,6 +42,8 @@ module _ (xs : List Term) (i : ℕ) (d : Term) (l : i < length xs) where
   pub spare_at : get_or (spares xs) i 0 ≡ (get_or xs i d).spare
   spare_at = get_or-map (λ (x : Term). x.spare) xs i d 0 l
 
+pub ruleset fields = (length_contents, length_firsts, length_nexts, length_spares, set_at_slot, number_at_slot, first_at, next_at, spare_at)
+
 -- ---- a record is changed
 pub contents_set : (xs : List Term) (i : ℕ) (y : Term) → contents (set xs i y) ≡ set (contents xs) i (content_of y)
 contents_set xs i y = map-set content_of xs i y
@@ -66,53 +70,4 @@ module _ (xs : List Term) (i : ℕ) (y d : Term) (l : i < length xs) where
   pub spares_kept : y.spare ≡ (get_or xs i d).spare → spares (set xs i y) ≡ spares xs
   spares_kept h = spares_set xs i y ∙ ap (set (spares xs) i) (h ∙ sym (spare_at xs i d l)) ∙ set-get_or (spares xs) i 0
 
--- ---- a place is linked to x
-module _ (xs : List Term) (b x : ℕ) (d : Term) (p : Option ℕ) where
-  pub relinked_front : p ≡ None → b < length xs → Relinked xs (set xs b (record { set = (get_or xs b d).set; code = (get_or xs b d).code; first = x; next = (get_or xs b d).next; spare = (get_or xs b d).spare })) b p x
-  relinked_front e l = record {
-    long = length-set xs b _;
-    contents = contents_kept xs b _ d l refl;
-    firsts = firsts_set xs b _ ∙ ap (λ o. relinked_firsts (firsts xs) b o x) (sym e);
-    nexts = nexts_kept xs b _ d l refl ∙ ap (λ o. relinked_nexts (nexts xs) o x) (sym e);
-    spares = spares_kept xs b _ d l refl;
-  }
-
-  pub relinked_slot : (q : ℕ) → p ≡ Some q → q < length xs → Relinked xs (set xs q (record { set = (get_or xs q d).set; code = (get_or xs q d).code; first = (get_or xs q d).first; next = x; spare = (get_or xs q d).spare })) b p x
-  relinked_slot q e l = record {
-    long = length-set xs q _;
-    contents = contents_kept xs q _ d l refl;
-    firsts = firsts_kept xs q _ d l refl ∙ ap (λ o. relinked_firsts (firsts xs) b o x) (sym e);
-    nexts = nexts_set xs q _ ∙ ap (λ o. relinked_nexts (nexts xs) o x) (sym e);
-    spares = spares_kept xs q _ d l refl;
-  }
-
-  pub link_front : p ≡ None → b < length xs → (get_or xs b d).first ≡ link (firsts xs) (nexts xs) b p
-  link_front e l = sym (ap (link (firsts xs) (nexts xs) b) e ∙ first_at xs b d l)
-
-  pub link_slot : (q : ℕ) → p ≡ Some q → q < length xs → (get_or xs q d).next ≡ link (firsts xs) (nexts xs) b p
-  link_slot q e l = sym (ap (link (firsts xs) (nexts xs) b) e ∙ next_at xs q d l)
-
--- ---- a slot is given to a set
-pub taken_by : (xs : List Term) (i : ℕ) (y d : Term) → i < length xs → y.first ≡ (get_or xs i d).first → y.spare ≡ (get_or xs i d).spare → TakenBy xs (set xs i y) i (number y.set) y.code y.next
-taken_by xs i y d l e f = record { long = length-set xs i y; contents = contents_set xs i y; firsts = firsts_kept xs i y d l e; nexts = nexts_set xs i y; spares = spares_kept xs i y d l f }
-
--- ---- a slot is freed, and then listed as the spare k
-abbrev emptied : Term → Term
-emptied x = record { set = x.set; code = 0; first = x.first; next = x.next; spare = x.spare }
-
-abbrev listing : Term → ℕ → Term
-listing x i = record { set = x.set; code = x.code; first = x.first; next = x.next; spare = i }
-
-pub released : (xs : List Term) (i k : ℕ) (d e : Term) → i < length xs → k < length xs
-    → Released xs (set (set xs i (emptied (get_or xs i d))) k (listing (get_or (set xs i (emptied (get_or xs i d))) k e) i)) i k
-released xs i k d e l m =
-    let y = emptied (get_or xs i d) in
-    let ys = set xs i y in
-    let w : k < length ys = omega (arith, length-set xs i y) in
-    record {
-      long = length-set ys k _ ∙ length-set xs i y;
-      contents = contents_kept ys k _ e w refl ∙ contents_set xs i y ∙ ap (λ S. set (contents xs) i (S, 0)) (sym (set_at_slot xs i d l));
-      firsts = firsts_kept ys k _ e w refl ∙ firsts_kept xs i y d l refl;
-      nexts = nexts_kept ys k _ e w refl ∙ nexts_kept xs i y d l refl;
-      spares = spares_set ys k _ ∙ ap (λ ss. set ss k i) (spares_kept xs i y d l refl);
-    }
+pub ruleset changes = (fields, on_set, contents_set, firsts_set, nexts_set, spares_set, contents_kept, firsts_kept, nexts_kept, spares_kept)

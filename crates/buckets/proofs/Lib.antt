@@ -1,14 +1,8 @@
-pub mod Got
 pub mod Leading
-pub mod Taking
-pub mod Freeing
-pub mod Renumbering
 pub mod Linking
 pub mod Fields
-pub mod Sounds
 pub mod Spreads
-pub mod Search
-pub mod Scans
 pub mod Wipes
+pub mod Ends
 pub mod Tables
 pub mod Answers

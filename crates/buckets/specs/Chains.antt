@@ -3,14 +3,9 @@
 -- chain. Assumes nothing.
 --     Taken ts k                  the slot k is not free
 --     Member home ts b from k     k is a slot of the bucket b, from `from` on
---     Begins ts fs b              the bucket b has a first slot
---     Goes ts ns j                the slot j is not free and has a next one
---     Later home ts j k           the slot k comes after the slot j in the same bucket
---     FirstHere home ts fs        the first slot of a bucket is one of its slots
---     FirstLeast home ts fs       and no slot of the bucket is below it
---     NextAbove ts ns             the next slot after a slot is above it
---     NextHere home ts ns         is a slot of the same bucket
---     NextLeast home ts ns        and no slot of the bucket is between the two
+--     Leads home ts b from i      i is the first slot of the bucket b from `from` on; where there is none, i is no slot
+--     Firsts home ts fs           each bucket knows its first slot
+--     Nexts home ts ns            each slot that is not free knows the next one of its bucket
 --     Spares ts ss free           the first `free` spares are free slots
 --     Distinct ss free            and no two of them are the same
 --     link fs ns b p              what a place in the chain of b links to; a place p is at the front of the bucket, or after a slot
@@ -31,32 +26,17 @@ pub record Member (home : ℕ → ℕ) (ts : Slots) (b from k : ℕ) : Type 0 wh
   pub homed : home (set_at ts k) ≡ b
   pub after : from ≤ k
 
-pub record Begins (ts : Slots) (fs : List ℕ) (b : ℕ) : Type 0 where
-  pub within : b < length ts
-  pub slot : slice_index fs b < length ts
+abbrev pub Leads : (ℕ → ℕ) → Slots → ℕ → ℕ → ℕ → Type 0
+Leads home ts b from i =
+    (from ≤ i)
+    × (i < length ts → (0 < number_at ts i) × (home (set_at ts i) ≡ b))
+    × ((k : ℕ) → Member home ts b from k → i ≤ k)
 
-pub record Goes (ts : Slots) (ns : List ℕ) (j : ℕ) : Type 0 where
-  pub taken : Taken ts j
-  pub slot : slice_index ns j < length ts
+abbrev pub Firsts : (ℕ → ℕ) → Slots → List ℕ → Type 0
+Firsts home ts fs = (b : ℕ) → b < length ts → Leads home ts b 0 (slice_index fs b)
 
-pub record Later (home : ℕ → ℕ) (ts : Slots) (j k : ℕ) : Type 0 where
-  pub taken : Taken ts j
-  pub member : Member home ts (home (set_at ts j)) (suc j) k
-
-abbrev pub FirstHere : (ℕ → ℕ) → Slots → List ℕ → Type 0
-FirstHere home ts fs = (b : ℕ) → Begins ts fs b → (0 < number_at ts (slice_index fs b)) × (home (set_at ts (slice_index fs b)) ≡ b)
-
-abbrev pub FirstLeast : (ℕ → ℕ) → Slots → List ℕ → Type 0
-FirstLeast home ts fs = (k : ℕ) → Taken ts k → slice_index fs (home (set_at ts k)) ≤ k
-
-abbrev pub NextAbove : Slots → List ℕ → Type 0
-NextAbove ts ns = (j : ℕ) → Taken ts j → j < slice_index ns j
-
-abbrev pub NextHere : (ℕ → ℕ) → Slots → List ℕ → Type 0
-NextHere home ts ns = (j : ℕ) → Goes ts ns j → (0 < number_at ts (slice_index ns j)) × (home (set_at ts (slice_index ns j)) ≡ home (set_at ts j))
-
-abbrev pub NextLeast : (ℕ → ℕ) → Slots → List ℕ → Type 0
-NextLeast home ts ns = (j k : ℕ) → Later home ts j k → slice_index ns j ≤ k
+abbrev pub Nexts : (ℕ → ℕ) → Slots → List ℕ → Type 0
+Nexts home ts ns = (j : ℕ) → Taken ts j → Leads home ts (home (set_at ts j)) (suc j) (slice_index ns j)
 
 abbrev pub Spares : Slots → List ℕ → ℕ → Type 0
 Spares ts ss free = (k : ℕ) → k < free → (slice_index ss k < length ts) × (number_at ts (slice_index ss k) ≡ 0)

@@ -2,8 +2,8 @@
 --     home n S                         the bucket of the set S among n
 --     contents xs                      the sets and numbers; `content_of` those of one record
 --     firsts xs, nexts xs, spares xs   the links
---     Chained xs                       the chains are in order
---     Sound xs count                   what a table over the records xs keeps, `count` of them not being free
+--     Keeps n ts fs ns ss count        what a table of n slots keeps of its lists, `count` of the slots not being free
+--     Sound xs count                   what a table over the records xs keeps
 --     TakenBy xs ys i S v x            from xs to ys the slot i was given to the set S with the number v and linked to x, and nothing else changed
 --     Released xs ys i k               from xs to ys the slot i was freed and listed as the spare k, and nothing else changed
 --     Relinked xs ys b p x             from xs to ys the place p of the bucket b was linked to x, and nothing else changed
@@ -14,7 +14,7 @@ use Rattle.algebra.specs.Gathered.{Slots, set_at, number_at, gather, Apart}
 use Rattle.sets.specs.Numbers.{number}
 use Rattle.sets.specs.Hash.{hash}
 use Rattle.buckets.specs.declared.term.Term.{Term}
-use Rattle.buckets.specs.Chains.{FirstHere, FirstLeast, NextAbove, NextHere, NextLeast, Spares, Distinct, relinked_firsts, relinked_nexts}
+use Rattle.buckets.specs.Chains.{Firsts, Nexts, Spares, Distinct, relinked_firsts, relinked_nexts}
 
 abbrev pub home : ℕ → ℕ → ℕ
 home n S = hash S % n
@@ -34,21 +34,18 @@ nexts xs = map (λ (x : Term). x.next) xs
 abbrev pub spares : List Term → List ℕ
 spares xs = map (λ (x : Term). x.spare) xs
 
-pub record Chained (xs : List Term) : Type 0 where
-  pub first_here : FirstHere (home (length xs)) (contents xs) (firsts xs)
-  pub first_least : FirstLeast (home (length xs)) (contents xs) (firsts xs)
-  pub next_above : NextAbove (contents xs) (nexts xs)
-  pub next_here : NextHere (home (length xs)) (contents xs) (nexts xs)
-  pub next_least : NextLeast (home (length xs)) (contents xs) (nexts xs)
+pub record Keeps (n : ℕ) (ts : Slots) (fs ns ss : List ℕ) (count : ℕ) : Type 0 where
+  pub few : n ≤ 65536
+  pub counted : count ≡ length (gather ts)
+  pub apart : Apart ts
+  pub bounded : Bounded ts
+  pub first : Firsts (home n) ts fs
+  pub next : Nexts (home n) ts ns
+  pub spare : Spares ts ss (n - count)
+  pub distinct : Distinct ss (n - count)
 
-pub record Sound (xs : List Term) (count : ℕ) : Type 0 where
-  pub few : length xs ≤ 65536
-  pub counted : count ≡ length (gather (contents xs))
-  pub apart : Apart (contents xs)
-  pub bounded : Bounded (contents xs)
-  pub chained : Chained xs
-  pub spare : Spares (contents xs) (spares xs) (length xs - count)
-  pub distinct : Distinct (spares xs) (length xs - count)
+abbrev pub Sound : List Term → ℕ → Type 0
+Sound xs count = Keeps (length xs) (contents xs) (firsts xs) (nexts xs) (spares xs) count
 
 pub record TakenBy (xs ys : List Term) (i S v x : ℕ) : Type 0 where
   pub long : length ys ≡ length xs

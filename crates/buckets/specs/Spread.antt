@@ -4,7 +4,7 @@
 --     lies xs b k       the slot k is not free, and its set is of the bucket b
 --     Spread xs         no set has two slots, the number of a set is that of its slot, and 0 where it has none; and a search of a bucket goes through its slots, from the lowest to the highest, and through no others
 --     EverSpread        so it is, whatever a table has gone through
-use Rattle.std.specs.Prelude.{◌≡◌, ℕ, zero, suc, ◌<◌, Bool, cond, ◌&&◌, List, [], ◌∷◌, length, filter, ◌==◌, nat_lt, slice_index}
+use Rattle.std.specs.Prelude.{◌≡◌, ℕ, zero, suc, ◌<◌, Bool, if◌then◌else◌, ◌&&◌, List, [], ◌∷◌, length, filter, ◌==◌, nat_lt, slice_index}
 use Rattle.std.specs.List.{range_with_len}
 use Rattle.algebra.specs.Poly.{at}
 use Rattle.algebra.specs.Gathered.{set_at, number_at, gather, Absent, Apart}
@@ -14,7 +14,7 @@ use Rattle.buckets.specs.Records.{home, contents, firsts, nexts, Sound}
 
 abbrev pub walk : List Term → ℕ → ℕ → List ℕ
 walk xs zero i = []
-walk xs (suc steps) i = cond (nat_lt i (length xs)) (i ∷ walk xs steps (slice_index (nexts xs) i)) []
+walk xs (suc steps) i = if nat_lt i (length xs) then i ∷ walk xs steps (slice_index (nexts xs) i) else []
 
 abbrev pub chain : List Term → ℕ → List ℕ
 chain xs b = walk xs (length xs) (slice_index (firsts xs) b)

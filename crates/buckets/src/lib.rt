@@ -3,6 +3,4 @@
 
 pub mod bucket;
 mod chains;
-mod end;
-mod table;
 pub mod term;

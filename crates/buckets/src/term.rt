@@ -1,10 +1,11 @@
 // The records that a bucket table works in.
 ghost use Rattle.std.specs.Prelude.{◌≡◌};
 ghost use Rattle.sets.specs.Numbers.{number};
+ghost use Rattle.buckets.specs.declared.term.TheConstants.{NONE};
 
 use sets::RankSet;
 
-// No slot: the end of a chain.
+// No slot: the end of a chain. No `Option`, since a reader's one test, that a link is below the number of slots, also shows its index in range.
 pub(crate) const NONE: u32 = u32::MAX;
 
 // A slot: a set with its code, free where the code is 0, and beside them what the table keeps for its chains.
@@ -23,7 +24,8 @@ pub struct Term {
 impl Term {
     // A free slot, to fill memory with that is to be lent.
     pub fn blank() -> Term
-        ensures { (result.code ≡ 0) × (number result.set ≡ 0) }
+        ensures free { (result.code ≡ 0) × (number result.set ≡ 0) }
+        ensures unlinked { result.first ≡ NONE }
     {
         Term {
             set: RankSet::empty(),

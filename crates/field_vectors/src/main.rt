@@ -7,8 +7,25 @@ ghost use Rattle.kind.specs.Field.{field as ring_of_field};
 use anyhow::anyhow;
 use kind::Kind;
 use kind::field::Field;
+use std::fmt;
 
-// Two factors and the product that is expected of them.
+// Whether an answer is the product that is expected.
+#[derive(Clone, Copy, PartialEq, Eq, Debug)]
+enum Verdict {
+    Holds,
+    Fails,
+}
+
+impl fmt::Display for Verdict {
+    fn fmt<W: fmt::Write>(&self, f: &mut fmt::Formatter<W>) -> fmt::Result {
+        f.write_str(match self {
+            Verdict::Holds => "holds",
+            Verdict::Fails => "fails",
+        })
+    }
+}
+
+// Two factors and the product that is expected of them. With names for the fields each row of the tables below would take five lines.
 struct Vector(u32, u32, u32);
 
 impl Vector {
@@ -19,20 +36,15 @@ impl Vector {
         field.product(self.0, self.1)
     }
 
-    // Whether an answer is the product that is expected.
-    fn holds(&self, answer: u32) -> bool
-        ensures { result ≡ (answer == self.now.2) }
+    fn verdict(&self, answer: u32) -> Verdict
+        ensures { result ≡ (if answer == self.now.2 then Verdict.Holds else Verdict.Fails) }
     {
-        answer == self.2
+        if answer == self.2 {
+            Verdict::Holds
+        } else {
+            Verdict::Fails
+        }
     }
-}
-
-// The vectors of one field, with its degree and modulus.
-#[derive(Drop)]
-struct Section<'a> {
-    degree: u32,
-    modulus: u32,
-    vectors: &'a [Vector],
 }
 
 // Six products that the AES standard works through, the chain of doublings among them, and three pairs of inverses in its field.
@@ -60,46 +72,63 @@ const SIXTEEN: [Vector; 5] = [
 ];
 
 // How many vectors hold, and how many fail.
-#[derive(Drop)]
+#[derive(Default, Drop)]
 struct Score {
     hold: u64,
     fail: u64,
 }
 
 impl Score {
-    fn count(&mut self, holds: bool)
-        ensures hold { self.new.hold ≡ (if holds then min (self.old.hold + 1) (2 ^ 64 - 1) else self.old.hold) }
-        ensures fail { self.new.fail ≡ (if holds then self.old.fail else min (self.old.fail + 1) (2 ^ 64 - 1)) }
+    fn count(&mut self, verdict: Verdict)
+        ensures holds { verdict ≡ Verdict.Holds → self.new ≡ record self.old { hold = min (self.old.hold + 1) (2 ^ 64 - 1) } }
+        ensures fails { verdict ≡ Verdict.Fails → self.new ≡ record self.old { fail = min (self.old.fail + 1) (2 ^ 64 - 1) } }
     {
-        if holds {
-            self.hold = self.hold.saturating_add(1);
-        } else {
-            self.fail = self.fail.saturating_add(1);
+        match verdict {
+            Verdict::Holds => self.hold = self.hold.saturating_add(1),
+            Verdict::Fails => self.fail = self.fail.saturating_add(1),
         }
     }
 }
 
-// Runs the vectors of one field, and prints each with its expectation and whether it holds.
-fn run_section(rt: &impl Print, section: &Section, score: &mut Score) -> anyhow::Result<()> {
-    let degree = section.degree;
-    let modulus = section.modulus;
-    let field = match Field::new(degree, modulus) {
-        Ok(field) => field,
-        Err(refusal) => {
-            println!(rt; "{refusal}")?;
-            return Err(anyhow!("the field is refused"));
-        }
-    };
-    println!(rt; "field of degree {degree}, modulus {modulus:X}")?;
-    for vector in section.vectors {
-        let answer = vector.answer(&field);
-        let holds = vector.holds(answer);
-        score.count(holds);
-        let Vector(left, right, product) = vector;
-        let verdict = if holds { "holds" } else { "fails" };
-        println!(rt; "{left:02X} x {right:02X} = {answer:02X}, expected {product:02X}: {verdict}")?;
+impl fmt::Display for Score {
+    fn fmt<W: fmt::Write>(&self, f: &mut fmt::Formatter<W>) -> fmt::Result {
+        write!(f, "{} hold, {} fail", self.hold, self.fail)
     }
-    Ok(())
+}
+
+// The vectors of one field, with its degree and modulus.
+#[derive(Drop)]
+struct Section<'a> {
+    degree: u32,
+    modulus: u32,
+    vectors: &'a [Vector],
+}
+
+impl Section<'_> {
+    // Runs the vectors, and prints each with its expectation and whether it holds.
+    fn run(&self, rt: &impl Print, score: &mut Score) -> anyhow::Result<()> {
+        let field = match Field::new(self.degree, self.modulus) {
+            Ok(field) => field,
+            Err(refusal) => {
+                println!(rt; "{refusal}")?;
+                return Err(anyhow!("the field is refused"));
+            }
+        };
+        println!(rt;
+            "field of degree {}, modulus {:X}",
+            self.degree, self.modulus
+        )?;
+        for vector in self.vectors {
+            let Vector(left, right, product) = vector;
+            let answer = vector.answer(&field);
+            let verdict = vector.verdict(answer);
+            score.count(verdict);
+            println!(rt;
+                "{left:02X} x {right:02X} = {answer:02X}, expected {product:02X}: {verdict}"
+            )?;
+        }
+        Ok(())
+    }
 }
 
 fn main(rt: HostRuntime) -> anyhow::Result<()> {
@@ -120,13 +149,12 @@ fn main(rt: HostRuntime) -> anyhow::Result<()> {
             vectors: &SIXTEEN,
         },
     ];
-    let mut score = Score { hold: 0, fail: 0 };
+    let mut score = Score::default();
     for section in &sections {
-        run_section(&rt, section, &mut score)?;
+        section.run(&rt, &mut score)?;
     }
-    let Score { hold, fail } = score;
-    println!(rt; "{hold} hold, {fail} fail")?;
-    if fail > 0 {
+    println!(rt; "{score}")?;
+    if score.fail > 0 {
         return Err(anyhow!("a vector fails"));
     }
     Ok(())

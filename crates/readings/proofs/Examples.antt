@@ -1,5 +1,5 @@
 -- The examples in fields, by computing the definitions. Assumes nothing.
-use Rattle.std.proofs.Common.{◌≡◌, ℕ, refl, ◌∙◌, ap₂}
+use Rattle.std.proofs.Common.{◌≡◌, refl}
 use Rattle.algebra.specs.Gf2.{◌⊗◌, carryless, remainder, reduce}
 use Rattle.kind.specs.Field.{field}
 
@@ -10,7 +10,3 @@ smallest_field = refl
 pub aes_product : (field 8 0x11B).product 0x57 0x83 ≡ 0xC1
 unfolding ◌⊗◌ carryless remainder reduce
 aes_product = refl
-
--- the same of a kind made with that degree and modulus
-pub made : (k p k' p' a b v r : ℕ) → r ≡ (field k' p').product a b → k' ≡ k → p' ≡ p → (field k p).product a b ≡ v → r ≡ v
-made k p k' p' a b v r e d m h = e ∙ ap₂ (λ (x y : ℕ). (field x y).product a b) d m ∙ h

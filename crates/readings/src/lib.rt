@@ -2,8 +2,6 @@
 #![tactic(auto)]
 
 ghost use Rattle.std.specs.Prelude.{◌≡◌, Ok};
-ghost use Rattle.kind.specs.Counts.{counts};
-ghost use Rattle.kind.specs.Field.{field};
 ghost use Rattle.readings.specs.Known.{Known};
 
 use kind::Kind;
@@ -27,34 +25,10 @@ pub fn known() -> Result<Answers, Refusal>
     ensures answers { result ≡ Ok (record { smallest_field = 3; aes_product = 0xC1; widest_counts = 0 }) }
 {
     Ok(Answers {
-        smallest_field: smallest_field()?,
-        aes_product: aes_product()?,
-        widest_counts: widest_counts()?,
+        smallest_field: Field::new(2, 7)?.product(2, 2),
+        aes_product: Field::new(8, 0x11b)?.product(0x57, 0x83),
+        widest_counts: Counts::new(32)?.product(65_536, 65_536),
     })
-}
-
-fn smallest_field() -> Result<u32, Refusal>
-    ensures fact { (field 2 7).product 2 2 ≡ 3 }
-    ensures answer { result ≡ Ok 3 }
-{
-    let kind = Field::new(2, 7)?;
-    Ok(kind.product(2, 2))
-}
-
-fn aes_product() -> Result<u32, Refusal>
-    ensures fact { (field 8 0x11B).product 0x57 0x83 ≡ 0xC1 }
-    ensures answer { result ≡ Ok 0xC1 }
-{
-    let kind = Field::new(8, 0x11b)?;
-    Ok(kind.product(0x57, 0x83))
-}
-
-fn widest_counts() -> Result<u32, Refusal>
-    ensures fact { (counts 32).product 65536 65536 ≡ 0 }
-    ensures answer { result ≡ Ok 0 }
-{
-    let kind = Counts::new(32)?;
-    Ok(kind.product(65_536, 65_536))
 }
 
 #[cfg(test)]
@@ -65,20 +39,27 @@ mod tests {
     use refusal::{Fault, Layer};
     use std::test::Fail;
 
-    fn bad_kind(size: u32) -> Option<Refusal> {
+    // The error of a call that refuses.
+    pub(crate) fn refused(fault: Fault, place: usize, layer: Layer) -> Option<Refusal> {
         Some(Refusal {
-            fault: Fault::BadKind,
-            place: size as usize,
-            layer: Layer::Kind,
+            fault,
+            place,
+            layer,
         })
+    }
+
+    fn bad_kind(size: u32) -> Option<Refusal> {
+        refused(Fault::BadKind, size as usize, Layer::Kind)
     }
 
     #[test]
     fn answers(rt: HostRuntime) -> Result<(), Fail> {
-        let found = known()?;
-        assert_eq!(rt; found.smallest_field, 3);
-        assert_eq!(rt; found.aes_product, 0xc1);
-        assert_eq!(rt; found.widest_counts, 0);
+        let expected = Answers {
+            smallest_field: 3,
+            aes_product: 0xc1,
+            widest_counts: 0,
+        };
+        assert_eq!(rt; known()?, expected);
         Ok(())
     }
 

@@ -29,6 +29,7 @@ pub fn granted_by_both(
 #[cfg(test)]
 mod tests {
     use super::*;
+    use crate::tests::refused;
     use refusal::{Fault, Layer, Refusal};
     use std::process::Abort;
     use store::check::check_slots;
@@ -36,8 +37,8 @@ mod tests {
 
     fn set_of(ranks: &[u16]) -> RankSet {
         let mut set = RankSet::empty();
-        for i in 0..ranks.len() {
-            set.insert(ranks[i]);
+        for rank in ranks {
+            set.insert(*rank);
         }
         set
     }
@@ -74,8 +75,8 @@ mod tests {
         let all = writes();
         assert_eq!(rt; write_all(one, &all), write_all(other, &all));
         assert_eq!(rt; one.count(), other.count());
-        for i in 0..all.len() {
-            assert_eq!(rt; one.read(&all[i].key), other.read(&all[i].key));
+        for write in &all {
+            assert_eq!(rt; one.read(&write.key), other.read(&write.key));
         }
         let mut here = set_of(&[77]);
         let mut there = set_of(&[77]);
@@ -111,12 +112,8 @@ mod tests {
         assert_eq!(rt; told(buckets.highest(&mut place), &place), (None, Some(77)));
     }
 
-    fn refused(slots: usize) -> Option<Refusal> {
-        Some(Refusal {
-            fault: Fault::BadSlots,
-            place: slots,
-            layer: Layer::Store,
-        })
+    fn bad_slots(slots: usize) -> Option<Refusal> {
+        refused(Fault::BadSlots, slots, Layer::Store)
     }
 
     #[test]
@@ -126,8 +123,8 @@ mod tests {
             assert_eq!(rt; check_slots::<Buckets<'_>>(n).err(), None);
         }
         for n in [0, 65_537, usize::MAX] {
-            assert_eq!(rt; check_slots::<Row<'_>>(n).err(), refused(n));
-            assert_eq!(rt; check_slots::<Buckets<'_>>(n).err(), refused(n));
+            assert_eq!(rt; check_slots::<Row<'_>>(n).err(), bad_slots(n));
+            assert_eq!(rt; check_slots::<Buckets<'_>>(n).err(), bad_slots(n));
         }
     }
 
@@ -138,11 +135,11 @@ mod tests {
             number: 0,
         }; 2];
         let mut labels = Labels::new(&mut slots);
-        assert_eq!(rt; labels.write(65_535, 1).is_ok(), true);
-        assert_eq!(rt; labels.write(0, 2).is_ok(), true);
-        assert_eq!(rt; labels.write(1, 3).is_ok(), false);
+        assert_eq!(rt; labels.write(&65_535, 1).is_ok(), true);
+        assert_eq!(rt; labels.write(&0, 2).is_ok(), true);
+        assert_eq!(rt; labels.write(&1, 3).is_ok(), false);
         assert_eq!(rt;
-            (labels.read(0), labels.read(1), labels.read(65_535)),
+            (labels.read(&0), labels.read(&1), labels.read(&65_535)),
             (2, 0, 1)
         );
         let mut lowest = 7;

@@ -5,7 +5,7 @@
 --     has_degree k m  m has degree k as a polynomial over the two-element field, bit i being the coefficient of X^i
 --     named f k m   the kind that the kind byte f, the size k and the modulus m name, if any
 --     kind_in c     the kind that a value of the code stands for, or none
-use Rattle.std.specs.Prelude.{ℕ, suc, ◌^◌, Bool, cond, ◌&&◌, Some, None, Option, ◌==◌, nat_le, nat_lt}
+use Rattle.std.specs.Prelude.{ℕ, suc, ◌^◌, Bool, if◌then◌else◌, ◌&&◌, Some, None, Option, ◌==◌, nat_le, nat_lt}
 use Rattle.algebra.specs.Ring.{Ring}
 use Rattle.kind.specs.Field.{field as ring_of_field}
 use Rattle.kind.specs.Counts.{counts as ring_of_counts}
@@ -29,9 +29,9 @@ has_degree k m = nat_le (2 ^ k) m && nat_lt m (2 ^ suc k)
 -- 1 names a field kind of degree 2 to 8, the modulus having that degree; 2 a counts kind of width 1 to 32, and 0 stands for the modulus
 abbrev pub named : ℕ → ℕ → ℕ → Option Kind
 named f k m =
-    cond (f == 1 && (among 2 8 k && has_degree k m)) (Some (field k m))
-    (cond (f == 2 && (among 1 32 k && m == 0)) (Some (counts k))
-    None)
+    if f == 1 && (among 2 8 k && has_degree k m) then Some (field k m)
+    else if f == 2 && (among 1 32 k && m == 0) then Some (counts k)
+    else None
 
 abbrev pub kind_of : Coefficients → Kind
 kind_of (Field f) = field f.degree f.modulus

@@ -9,14 +9,11 @@
 --     closed_at s n   it was closed
 --     has l ls        the label l is one of ls
 --     sheet_of o      the sheet that the tables of an open sheet hold
-use Rattle.std.specs.Prelude.{ℕ, Bool, true, false, ◌||◌, List, [], ◌∷◌, ◌++◌, map, replicate, is_some, Some, None, Option, ◌==◌, slice_index_or}
+use Rattle.std.specs.Prelude.{ℕ, Bool, false, ◌||◌, List, [], ◌∷◌, ◌++◌, map, replicate, is_some, Some, None, Option, option_map, ◌==◌, slice_index_or}
 use Rattle.sheet.specs.declared.gate.Declared.{Declared}
 use Rattle.sheet.specs.declared.term.Term.{Term}
-use Rattle.sheet.specs.declared.open.Progress.{Progress}
-use Rattle.sheet.specs.declared.open.Progress.TheVariants.{Unopened, Open, Closed}
 use Rattle.sheet.specs.declared.open.Word.{Word as WordRecord}
 use Rattle.sheet.specs.declared.open.OpenSheet.{OpenSheet}
-use Rattle.sheet.specs.Held.{held}
 use Rattle.sheet.specs.Claimed.{claims_of}
 use Rattle.sheet.specs.Kinds.{Kind, kind_in}
 
@@ -65,19 +62,14 @@ abbrev pub has : ℕ → List ℕ → Bool
 has l [] = false
 has l (x ∷ xs) = x == l || has l xs
 
-abbrev pub word_by : Progress → List ℕ → Option Word
-word_by Unopened ls = None
-word_by Open ls = Some (record { bits = ls; closed = false })
-word_by Closed ls = Some (record { bits = ls; closed = true })
-
-abbrev pub word_of : WordRecord → Option Word
-word_of w = word_by w.progress (held w.bits)
+abbrev pub word_of : WordRecord → Word
+word_of w = record { bits = w.bits.items; closed = w.closed }
 
 abbrev pub sheet_of : OpenSheet → Sheet
 sheet_of o = record {
   kind = kind_in o.kind;
-  inputs = held o.inputs;
-  gates = held o.gates;
-  words = map word_of o.words;
+  inputs = o.inputs.items;
+  gates = o.gates.items;
+  words = map (option_map word_of) o.words;
   claims = claims_of o.claims;
 }

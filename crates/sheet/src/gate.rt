@@ -2,13 +2,13 @@
 ghost use Rattle.std.specs.Prelude.{◌≡◌};
 ghost use Rattle.sheet.specs.Gates.{unary as unary_of, binary as binary_of};
 
-#[derive(Clone, Copy)]
+#[derive(Clone, Copy, Debug, Eq, PartialEq)]
 pub enum UnaryOp {
     Buf,
     Not,
 }
 
-#[derive(Clone, Copy)]
+#[derive(Clone, Copy, Debug, Eq, PartialEq)]
 pub enum BinaryOp {
     And,
     Or,
@@ -19,7 +19,7 @@ pub enum BinaryOp {
 }
 
 // A gate with its operands: labels on a sheet as it was read, ranks on an ordered sheet.
-#[derive(Clone, Copy)]
+#[derive(Clone, Copy, Debug, Eq, PartialEq)]
 pub enum Gate {
     Constant(bool),
     Unary(UnaryOp, u16),
@@ -27,10 +27,22 @@ pub enum Gate {
 }
 
 // A gate as it is declared, with the label of its output.
-#[derive(Clone, Copy)]
+#[derive(Clone, Copy, Debug, Default, Eq, PartialEq)]
 pub struct Declared {
     pub output: u16,
     pub gate: Gate,
+}
+
+// What a table of gates holds where none stands.
+impl Default for Gate {
+    ghost use Rattle.std.specs.Prelude.{◌≡◌, false};
+    ghost use Rattle.sheet.specs.declared.gate.Gate.TheVariants.{Constant};
+
+    ghost is_default = { λ g. g ≡ Constant false };
+
+    fn default() -> Self {
+        Gate::Constant(false)
+    }
 }
 
 impl UnaryOp {

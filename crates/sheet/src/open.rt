@@ -1,32 +1,40 @@
 // A sheet as it is read: tables of fixed size.
-use crate::bounded::Bounded;
 use crate::claims::Claims;
 use crate::coefficients::Coefficients;
 use crate::gate::Declared;
+use arrayvec::ArrayVec;
 
-pub mod ops;
-
-// How far a word has come.
-#[derive(Clone, Copy)]
-pub enum Progress {
-    Unopened,
-    Open,
-    Closed,
-}
-
-// The labels of a word's bits, from position 0.
-#[derive(Clone, Copy)]
+// The labels of a word's bits, from position 0, and whether it was closed.
+#[derive(Clone, Drop)]
 pub struct Word {
-    progress: Progress,
-    bits: Bounded<u16, 32>,
+    bits: ArrayVec<u16, 32>,
+    closed: bool,
 }
 
-// An open sheet: what a netlist declares, by labels.
+// An open sheet: what a netlist declares, by labels. A word stands at its number once it was opened.
 #[derive(Drop)]
 pub struct OpenSheet {
     pub(crate) kind: Option<Coefficients>,
-    pub(crate) inputs: Bounded<u16, 512>,
-    pub(crate) gates: Bounded<Declared, 512>,
-    pub(crate) words: [Word; 16],
+    pub(crate) inputs: ArrayVec<u16, 512>,
+    pub(crate) gates: ArrayVec<Declared, 512>,
+    pub(crate) words: [Option<Word>; 16],
     pub(crate) claims: Claims,
+}
+
+impl OpenSheet {
+    ghost use Rattle.std.specs.Prelude.{◌≡◌};
+    ghost use Rattle.sheet.specs.Sheets.{sheet_of, blank as blank_sheet};
+
+    // A sheet without anything on it, and of no kind.
+    pub fn blank() -> OpenSheet
+        ensures { sheet_of result ≡ blank_sheet }
+    {
+        OpenSheet {
+            kind: None,
+            inputs: ArrayVec::new(),
+            gates: ArrayVec::new(),
+            words: Default::default(),
+            claims: Claims::none(),
+        }
+    }
 }

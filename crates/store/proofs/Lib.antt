@@ -1,6 +1,6 @@
+pub mod Ends
 pub mod Places
-pub mod Halving
-pub mod Shifted
+pub mod Searches
+pub mod Shifts
 pub mod Writes
-pub mod Kept
 pub mod Ordered

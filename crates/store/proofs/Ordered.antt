@@ -1,14 +1,13 @@
 -- Writes in order: what is left of them after some.
-use Rattle.std.proofs.Common.{◌≡◌, ℕ, suc, ◌+◌, ◌<◌, Bool, true, false, List, ◌∷◌, length, get_or, drop, sym, refl, ap, ◌∙◌, arith}
-use Rattle.std.proofs.lemmas.List.{drop_more, drop_all, get_or-map, length-map}
-use Rattle.std.proofs.lemmas.Bool.{cond-true, cond-false}
+use Rattle.std.proofs.Common.{◌≡◌, ℕ, ◌+◌, ◌<◌, Bool, true, false, List, ◌∷◌, length, get_or, drop, sym, refl, ap, ◌∙◌, arith}
+use Rattle.std.proofs.lemmas.List.{drop_more, get_or-map, length-map}
 use Rattle.algebra.specs.Poly.{Poly, put}
 use Rattle.sets.specs.Numbers.{number}
 use Rattle.sets.specs.declared.RankSet.{RankSet}
 use Rattle.store.specs.declared.slot.Slot.{Slot}
 use Rattle.store.specs.Answers.{Wrote}
 use Rattle.store.specs.Stores.{Room, fits}
-use Rattle.store.specs.Tables.{term}
+use Rattle.store.specs.Terms.{term}
 use Rattle.store.specs.Batches.{written, pairs}
 
 -- after i writes that were granted the store is at q, and the rest leads to the same
@@ -17,59 +16,32 @@ pub record Midway (room : Room) (p : Poly) (ws : List (ℕ × ℕ)) (i : ℕ) (q
   pub after : (written (fits room) p ws).1 ≡ (written (fits room) q (drop i ws)).1
   pub same : room' ≡ room
 
-pub midway_start : (room : Room) (p : Poly) (ws : List (ℕ × ℕ)) → Midway room p ws 0 p room
-midway_start room p ws = record { granted = omega arith; after = refl; same = refl }
+module _ (room : Room) (p : Poly) (xs : List (Slot RankSet)) (i : ℕ) (q q' : Poly) (room' : Room) (r : Bool) (M : Midway room p (pairs xs) i q room')
+    (x : Slot RankSet) (read : x ≡ get_or xs i x) (l : i < length xs) (w : Wrote (fits room') q (number x.key) x.number q' r) where
+  abbrev rest : List (ℕ × ℕ)
+  rest = drop (i + 1) (pairs xs)
 
--- one more write, and what is left after it
-next_fits : (test : Poly → Bool) (q : Poly) (w : ℕ × ℕ) (ws : List (ℕ × ℕ)) → test (put q w.0 w.1) ≡ true
-    → written test q (w ∷ ws) ≡ (suc (written test (put q w.0 w.1) ws).0, (written test (put q w.0 w.1) ws).1)
-next_fits test q w ws e =
-    cond-true (test (put q w.0 w.1)) (suc (written test (put q w.0 w.1) ws).0, (written test (put q w.0 w.1) ws).1) (0, q) e
-
-next_none : (test : Poly → Bool) (q : Poly) (w : ℕ × ℕ) (ws : List (ℕ × ℕ)) → test (put q w.0 w.1) ≡ false → written test q (w ∷ ws) ≡ (0, q)
-next_none test q w ws e =
-    cond-false (test (put q w.0 w.1)) (suc (written test (put q w.0 w.1) ws).0, (written test (put q w.0 w.1) ws).1) (0, q) e
-
-module _ (room : Room) (p : Poly) (xs : List (Slot RankSet)) (i : ℕ) (q : Poly) (room' : Room) (M : Midway room p (pairs xs) i q room')
-    (x : Slot RankSet) (read : x ≡ get_or xs i x) (l : i < length xs) where
-  ws : List (ℕ × ℕ)
-  ws = pairs xs
-
-  left : drop i (pairs xs) ≡ term number x ∷ drop (i + 1) (pairs xs)
+  left : drop i (pairs xs) ≡ term number x ∷ rest
   left =
       drop_more (pairs xs) i (0, 0) (omega (arith, length-map xs (term number)))
-      ∙ ap (λ t. t ∷ drop (i + 1) (pairs xs)) (get_or-map (term number) xs i x (0, 0) l ∙ ap (term number) (sym read))
+      ∙ ap (λ t. t ∷ rest) (get_or-map (term number) xs i x (0, 0) l ∙ ap (term number) (sym read))
+
+  answer : fits room (put q (number x.key) x.number) ≡ r
+  answer = ap (λ r. fits r (put q (number x.key) x.number)) (sym M.same) ∙ sym w.answer
 
   -- the write is granted
-  pub midway_more : (q' : Poly) (room'' : Room) → Wrote (fits room') q (number x.key) x.number q' true → room'' ≡ room' → Midway room p (pairs xs) (i + 1) q' room''
-  midway_more q' room'' w e =
-      let t : fits room (put q (number x.key) x.number) ≡ true = ap (λ r. fits r (put q (number x.key) x.number)) (sym M.same) ∙ sym w.answer in
-      let s = ap (written (fits room) q) left ∙ next_fits (fits room) q (term number x) (drop (i + 1) (pairs xs)) t in
-      let a = w.after in
+  pub midway_more : (room'' : Room) → r ≡ true → room'' ≡ room' → Midway room p (pairs xs) (i + 1) q' room''
+  midway_more room'' is same =
+      let test = answer ∙ is in
+      let now = w.after in
       record {
-        granted =
-            let g = M.granted in
-            let n = ap (λ (r : ℕ × Poly). r.0) s in
-            let o = ap (λ y. (written (fits room) y (drop (i + 1) (pairs xs))).0) a in
-            omega arith;
-        after = M.after ∙ ap (λ (r : ℕ × Poly). r.1) s ∙ ap (λ y. (written (fits room) y (drop (i + 1) (pairs xs))).1) (sym a);
-        same = e ∙ M.same;
+        granted = M.granted ∙ rw (left, test, now, is) (omega arith);
+        after = M.after ∙ rw (left, test, now, is) refl;
+        same = same ∙ M.same;
       }
 
   -- the write is refused
-  pub midway_stop : (q' : Poly) → Wrote (fits room') q (number x.key) x.number q' false → (i ≡ (written (fits room) p (pairs xs)).0) × (q' ≡ (written (fits room) p (pairs xs)).1)
-  midway_stop q' w =
-      let t : fits room (put q (number x.key) x.number) ≡ false = ap (λ r. fits r (put q (number x.key) x.number)) (sym M.same) ∙ sym w.answer in
-      let s = ap (written (fits room) q) left ∙ next_none (fits room) q (term number x) (drop (i + 1) (pairs xs)) t in
-      let g = M.granted in
-      let n = ap (λ (r : ℕ × Poly). r.0) s in
-      (omega arith, w.after ∙ sym (M.after ∙ ap (λ (r : ℕ × Poly). r.1) s))
-
--- every write was granted
-pub midway_end : (room : Room) (p : Poly) (xs : List (Slot RankSet)) (i : ℕ) (q : Poly) (room' : Room) → Midway room p (pairs xs) i q room' → i ≡ length xs
-    → (length xs ≡ (written (fits room) p (pairs xs)).0) × (q ≡ (written (fits room) p (pairs xs)).1)
-midway_end room p xs i q room' M e =
-    let s = ap (written (fits room) q) (drop_all i (pairs xs) (omega (arith, length-map xs (term number)))) in
-    let g = M.granted in
-    let n = ap (λ (r : ℕ × Poly). r.0) s in
-    (omega arith, sym (M.after ∙ ap (λ (r : ℕ × Poly). r.1) s))
+  pub midway_stop : r ≡ false → (i ≡ (written (fits room) p (pairs xs)).0) × (q' ≡ (written (fits room) p (pairs xs)).1)
+  midway_stop is =
+      let test = answer ∙ is in
+      (sym (M.granted ∙ rw (left, test) (omega arith)), w.after ∙ rw is (sym (M.after ∙ rw (left, test) refl)))

@@ -1,74 +1,84 @@
 -- What each way of a write leaves.
-use Rattle.std.proofs.Common.{◌≡◌, ℕ, suc, ◌+◌, ◌-◌, ◌^◌, ◌<◌, ◌≤◌, true, false, List, ◌∷◌, ◌++◌, map, length, take, drop, set, sym, refl, ap, ◌∙◌, arith}
+use Rattle.std.proofs.Common.{◌≡◌, ℕ, suc, ◌+◌, ◌-◌, ◌^◌, ◌<◌, ◌≤◌, true, false, List, ◌++◌, map, length, take, drop, get_or, set, sym, refl, ap, ◌∙◌, arith}
 use lib.Seq.{take-set-lt}
-use Rattle.std.specs.List.{insert, remove}
-use Rattle.std.proofs.lemmas.List.{map-append, map-set, take-map, drop-map, set_split, take-append-drop, length-set}
+use Rattle.std.specs.List.{insert, remove, copy_within}
+use Rattle.std.proofs.lemmas.List.{map-set, set_split, take-append-drop}
 use Rattle.std.proofs.lemmas.List.Edits.{length-insert}
 use Rattle.std.proofs.lemmas.Bool.{le-leb, lt-leb}
 use Rattle.algebra.specs.Poly.{Poly, put, standing}
-use Rattle.algebra.specs.Rows.{StandsAt, FallsAt}
+use Rattle.algebra.specs.Rows.{Sorted, Nonzero, Bounded, StandsAt, FallsAt}
 use Rattle.algebra.proofs.Polys.{rising_put}
 use Rattle.algebra.proofs.Rows.{rising_from, sorted_from, nonzero_from, bounded_put, put_stands, put_falls, front_some, length_standing}
 use Rattle.store.specs.declared.slot.Slot.{Slot}
+use Rattle.store.specs.declared.table.Table.{Table}
 use Rattle.store.specs.Answers.{Wrote}
 use Rattle.store.specs.Stores.{at_most, fits}
-use Rattle.store.specs.Tables.{term, terms, SoundIn}
-use Rattle.store.proofs.Places.{length_terms}
+use Rattle.store.specs.Terms.{term, terms}
+use Rattle.store.specs.Tables.{contents, room}
+use Rattle.store.proofs.Places.{length_contents, term_at}
+use Rattle.store.proofs.Shifts.{map_inserted, map_removed, closed, opened}
 
-map_inserted : {X Y : Type 0} (f : X → Y) (xs : List X) (i : ℕ) (x : X) → map f (insert xs i x) ≡ insert (map f xs) i (f x)
-map_inserted f xs i x = rw (map-append f (take i xs) (x ∷ drop i xs), take-map f i xs, drop-map f i xs)
+-- a write of v at S to p, by what is done at the place that a search gives
+module _ (p : Poly) (S i : ℕ) where
+  pub removed : Sorted p → StandsAt p S i → remove p i ≡ put p S 0
+  removed up h = sym (put_stands p S 0 i up h)
 
-map_removed : {X Y : Type 0} (f : X → Y) (xs : List X) (i : ℕ) → map f (remove xs i) ≡ remove (map f xs) i
-map_removed f xs i = rw (map-append f (take i xs) (drop (suc i) xs), take-map f i xs, drop-map f (suc i) xs)
+  pub replaced : (v : ℕ) → Sorted p → StandsAt p S i → (v ≡ 0 → ⊥) → set p i (S, v) ≡ put p S v
+  replaced v up h z =
+      set_split p i (S, v) h.within ∙ ap (λ q. take i p ++ q) (sym (front_some S v (drop (suc i) p) z)) ∙ sym (put_stands p S v i up h)
 
--- a write of v at S to the first n of the slots xs is granted, and leaves the first m of ys
-pub record Granted {K : Type 0} (number : K → ℕ) (xs : List (Slot K)) (n room S v : ℕ) (ys : List (Slot K)) (m : ℕ) : Type 0 where
-  pub wrote : Wrote (fits (at_most room)) (terms number xs n) S v (terms number ys m) true
-  pub sound : SoundIn number ys room m
+  pub inserted : (v : ℕ) → FallsAt p S i → (v ≡ 0 → ⊥) → insert p i (S, v) ≡ put p S v
+  inserted v h z = sym (put_falls p S v i h ∙ ap (λ q. take i p ++ q) (front_some S v (drop i p) z))
 
-module _ {K : Type 0} (number : K → ℕ) (xs : List (Slot K)) (n room : ℕ) (sound : SoundIn number xs room n) where
-  abbrev p : Poly
-  p = terms number xs n
+  pub nothing : FallsAt p S i → p ≡ put p S 0
+  nothing h = sym (put_falls p S 0 i h ∙ take-append-drop i p)
 
-  granted : (S v : ℕ) (ys : List (Slot K)) (m : ℕ) → v < 2 ^ 32 → m ≤ room → length ys ≡ length xs → terms number ys m ≡ put p S v → Granted number xs n room S v ys m
-  granted S v ys m b le same e =
-      let r = rising_put p S v (rising_from p sound.2 sound.3) in
-      let w : room ≤ length ys = omega (arith, sound.1) in
-      record {
-        wrote = record { answer = sym (le-leb (length (standing (put p S v))) room (omega (arith, length_standing (put p S v), ap length e, length_terms number ys m (omega arith)))); after = e };
-        sound = (le, w, rw e (sorted_from (put p S v) r), rw e (nonzero_from (put p S v) r), rw e (bounded_put p S v b sound.4));
-      }
+-- what the ghost fields of a table say of its contents
+pub record Formed (p : Poly) : Type 0 where
+  pub sorted : Sorted p
+  pub nonzero : Nonzero p
+  pub bounded : Bounded p
 
-  pub granted_removed : (S v i : ℕ) (ys : List (Slot K)) → v < 2 ^ 32 → length ys ≡ length xs → take (n - 1) ys ≡ remove (take n xs) i → StandsAt p S i → v ≡ 0 → Granted number xs n room S v ys (n - 1)
-  granted_removed S v i ys b same e h z =
-      granted S v ys (n - 1) b (omega (arith, sound.0)) same
-      (ap (map (term number)) e ∙ map_removed (term number) (take n xs) i ∙ sym (put_stands p S 0 i sound.2 h) ∙ ap (put p S) (sym z))
+module _ {K : Type 0} {key : _} {o : _} {e : _} {p : _} (t : Table K key o e p) where
+  pub slot_removed : (i : ℕ) (ys : List (Slot K)) → i < t.len → ys ≡ copy_within t.slots.now (i + 1) t.len i
+      → terms key.number ys (t.len - 1) ≡ remove (contents t) i
+  slot_removed i ys lt is =
+      ap (map (term key.number)) (ap (take (t.len - 1)) is ∙ closed t.slots.now t.len i lt t.within) ∙
+      map_removed (term key.number) (take t.len t.slots.now) i
 
-  pub granted_set : (x : Slot K) (i : ℕ) → x.number < 2 ^ 32 → i < n → StandsAt p (number x.key) i → (x.number ≡ 0 → ⊥) → Granted number xs n room (number x.key) x.number (set xs i x) n
-  granted_set x i b lt h z =
-      granted (number x.key) x.number (set xs i x) n b sound.0 (length-set xs i x)
-      (ap (map (term number)) (take-set-lt n xs i x lt)
-      ∙ map-set (term number) (take n xs) i x
-      ∙ set_split p i (term number x) h.within
-      ∙ ap (λ q. take i p ++ q) (sym (front_some (number x.key) x.number (drop (suc i) p) z))
-      ∙ sym (put_stands p (number x.key) x.number i sound.2 h))
+  pub slot_inserted : (i : ℕ) (x : Slot K) (ys : List (Slot K)) → i ≤ length (contents t) → t.len < room t → ys ≡ copy_within t.slots.now i t.len (i + 1)
+      → terms key.number (set ys i x) (t.len + 1) ≡ insert (contents t) i (term key.number x)
+  slot_inserted i x ys le free is =
+      ap (map (term key.number)) (ap (λ zs. take (t.len + 1) (set zs i x)) is ∙ opened t.slots.now t.len i x (omega (arith, length_contents t)) free) ∙
+      map_inserted (term key.number) (take t.len t.slots.now) i x
 
-  pub granted_none : (S v i : ℕ) → v < 2 ^ 32 → FallsAt p S i → v ≡ 0 → Granted number xs n room S v xs n
-  granted_none S v i b h z = granted S v xs n b sound.0 refl (sym (put_falls p S 0 i h ∙ take-append-drop i p) ∙ ap (put p S) (sym z))
+  -- the number of the slot at i is replaced
+  pub slot_replaced : (S v i : ℕ) (d : Slot K) → StandsAt (contents t) S i → (v ≡ 0 → ⊥)
+      → terms key.number (set t.slots.now i (record { key = (get_or t.slots.now i d).key; number = v })) t.len ≡ put (contents t) S v
+  slot_replaced S v i d h z =
+      let x : Slot K = record { key = (get_or t.slots.now i d).key; number = v } in
+      let same = sym (ap (λ (y : ℕ × ℕ). y.0) (term_at t i d h.within)) ∙ h.is in
+      ap (map (term key.number)) (take-set-lt t.len t.slots.now i x (omega (arith, h.within, length_contents t))) ∙
+      map-set (term key.number) (take t.len t.slots.now) i x ∙
+      ap (λ s. set (contents t) i (s, v)) same ∙
+      replaced (contents t) S i v t.sorted h z
 
-  put_new : (S v i : ℕ) → FallsAt p S i → (v ≡ 0 → ⊥) → put p S v ≡ insert p i (S, v)
-  put_new S v i h z = put_falls p S v i h ∙ ap (λ q. take i p ++ q) (front_some S v (drop i p) z)
+  pub formed_put : (q : Poly) (S v : ℕ) → v < 2 ^ 32 → q ≡ put (contents t) S v → Formed q
+  formed_put q S v lt is =
+      let rising = rising_put (contents t) S v (rising_from (contents t) t.sorted t.nonzero) in
+      let p' = put (contents t) S v in
+      rw is (record { sorted = sorted_from p' rising; nonzero = nonzero_from p' rising; bounded = bounded_put (contents t) S v lt t.bounded })
 
-  pub granted_inserted : (x : Slot K) (i : ℕ) (ys : List (Slot K)) → x.number < 2 ^ 32 → (n ≡ room → ⊥) → length ys ≡ length xs → take (n + 1) ys ≡ insert (take n xs) i x → FallsAt p (number x.key) i → (x.number ≡ 0 → ⊥) → Granted number xs n room (number x.key) x.number ys (n + 1)
-  granted_inserted x i ys b free same e h z =
-      granted (number x.key) x.number ys (n + 1) b (omega (arith, free, sound.0)) same
-      (ap (map (term number)) e ∙ map_inserted (term number) (take n xs) i x ∙ sym (put_new (number x.key) x.number i h z))
+  pub granted : (q : Poly) (S v : ℕ) → length q ≤ room t → q ≡ put (contents t) S v → Wrote (fits (at_most (room t))) (contents t) S v q true
+  granted q S v within is = record {
+    answer = sym (le-leb (length (standing (put (contents t) S v))) (room t) (omega (arith, length_standing (put (contents t) S v), ap length is)));
+    after = is;
+  }
 
-  pub refused : (S v i : ℕ) → n ≡ room → FallsAt p S i → (v ≡ 0 → ⊥) → Wrote (fits (at_most room)) p S v p false
+  pub refused : (S v i : ℕ) → t.len ≡ room t → FallsAt (contents t) S i → (v ≡ 0 → ⊥) → Wrote (fits (at_most (room t))) (contents t) S v (contents t) false
   refused S v i full h z = record {
     answer =
-        let l = length_terms number xs n (omega (arith, sound.1)) in
-        let q = ap length (put_new S v i h z) ∙ length-insert p i (S, v) h.within in
-        sym (lt-leb (length (standing (put p S v))) room (omega (arith, length_standing (put p S v))));
+        let longer = ap length (sym (inserted (contents t) S i v h z)) ∙ length-insert (contents t) i (S, v) h.within ∙ ap (λ n. n + 1) (length_contents t) in
+        sym (lt-leb (length (standing (put (contents t) S v))) (room t) (omega (arith, length_standing (put (contents t) S v))));
     after = refl;
   }

@@ -7,7 +7,7 @@
 --     StoreLaws poly room   what every store owes of its polynomial and its room: the form, the sizes, that it holds what it can hold; that it can hold nothing, never more than 65,536 sets, and every part of what it can hold
 --     takes most n          a store that takes up to `most` slots takes n of them
 --     taken most n          how many it works over where n are lent: all, or none where it does not take n
-use Rattle.std.specs.Prelude.{◌≡◌, ℕ, ◌^◌, ◌<◌, ◌≤◌, Bool, true, cond, ◌&&◌, List, [], length, nat_le, nat_lt}
+use Rattle.std.specs.Prelude.{◌≡◌, ℕ, ◌^◌, ◌<◌, ◌≤◌, Bool, true, if◌then◌else◌, ◌&&◌, List, [], length, nat_le, nat_lt}
 use Rattle.std.specs.List.{AllByRecursion}
 use Rattle.algebra.specs.Poly.{Poly, Rising, standing}
 use Rattle.algebra.specs.Parts.{Part}
@@ -36,4 +36,4 @@ abbrev pub takes : ℕ → ℕ → Bool
 takes most n = nat_lt 0 n && nat_le n most
 
 abbrev pub taken : ℕ → ℕ → ℕ
-taken most n = cond (takes most n) n 0
+taken most n = if takes most n then n else 0

@@ -11,23 +11,13 @@ use sets::RankSet;
 // Writes each set with its number, until the first write that the store refuses, and answers how many were granted. What a write means for
 // the number of each set is part of the promise.
 pub fn write_all<S: Store>(store: &mut S, terms: &[Slot<RankSet>]) -> usize
-    ensures granted { result ≡ (written (fits (S.Store.room store.old)) (S.Store.poly store.old) (pairs terms.now)).0 }
-    ensures after { S.Store.poly store.new ≡ (written (fits (S.Store.room store.old)) (S.Store.poly store.old) (pairs terms.now)).1 }
-    ensures same { S.Store.room store.new ≡ S.Store.room store.old }
+    ensures granted { result ≡ (written (fits (S.room store.old)) (S.poly store.old) (pairs terms.now)).0 }
+    ensures after { S.poly store.new ≡ (written (fits (S.room store.old)) (S.poly store.old) (pairs terms.now)).1 }
+    ensures same { S.room store.new ≡ S.room store.old }
     ensures law { Meaning }
 {
-    write_in_order(store, terms)
-}
-
-fn write_in_order<S: Store>(store: &mut S, terms: &[Slot<RankSet>]) -> usize
-    ensures granted { result ≡ (written (fits (S.Store.room store.old)) (S.Store.poly store.old) (pairs terms.now)).0 }
-    ensures after { S.Store.poly store.new ≡ (written (fits (S.Store.room store.old)) (S.Store.poly store.old) (pairs terms.now)).1 }
-    ensures same { S.Store.room store.new ≡ S.Store.room store.old }
-    ensures law { Meaning }
-{
-    for i in 0..terms.len() {
-        let term = terms[i];
-        if let Err(_full) = store.write(&term.key, term.number) {
+    for (i, term) in terms.iter().enumerate() {
+        if store.write(&term.key, term.number).is_err() {
             return i;
         }
     }

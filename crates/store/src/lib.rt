@@ -14,9 +14,8 @@ pub mod check;
 pub mod key;
 pub mod labels;
 pub mod row;
-mod shift;
 pub mod slot;
-mod table;
+pub mod table;
 
 use slot::Full;
 
@@ -30,12 +29,10 @@ pub trait Store {
     // What it means.
     ghost poly: { Self → Poly };
 
-    // Which standing sets it can hold: fixed when it is made.
+    // Which standing sets it can hold: fixed when it is made. Each call that changes a store says so, since no invariant speaks of two states.
     ghost room: { Self → Room };
 
-    ghost laws: { StoreLaws poly room };
-
-    // `MOST`, for generic code.
+    // `MOST`, for generic code: of an impl with a lifetime, no clause can say yet what its constant is.
     fn most_slots() -> usize
         ensures { result ≡ most };
 
@@ -48,7 +45,8 @@ pub trait Store {
     fn read(&self, set: &RankSet) -> u32
         ensures { result ≡ at (poly self.now) (number «set».now) };
 
-    // The highest standing set goes into `place`, its number is the answer; with none, the place stays as it was.
+    // The highest standing set goes into a place that the caller lends, its number is the answer; with none, the place stays as it was. That
+    // sets are handed out so, and not as an `Option` of a set, is a rule of the project.
     fn highest(&self, place: &mut RankSet) -> Option<u32>
         ensures { Handed number (highest_of (poly self.now)) result place.old place.new };
 
@@ -64,4 +62,7 @@ pub trait Store {
     fn write(&mut self, set: &RankSet, value: u32) -> Result<(), Full>
         ensures wrote { Wrote (fits (room self.old)) (poly self.old) (number «set».now) value (poly self.new) (is_ok result) }
         ensures same { room self.new ≡ room self.old };
+
+    // What every store owes.
+    ghost laws: { StoreLaws poly room };
 }

@@ -1,156 +1,146 @@
 // The ordered table over lent slots: keys that rise, each with its number, none of them 0.
-ghost use Rattle.std.specs.Prelude.{◌≡◌, ◌<◌, ◌≤◌, false, [], length, is_ok, MatchResult};
-ghost use Rattle.algebra.specs.Poly.{at, lowest as lowest_of, highest as highest_of};
-ghost use Rattle.algebra.specs.Rows.{StandsAt, FallsAt};
-ghost use Rattle.store.specs.Answers.{Handed, Wrote};
-ghost use Rattle.store.specs.Stores.{at_most, fits};
-ghost use Rattle.store.specs.Tables.{contents, Sound};
+ghost use Rattle.std.specs.Prelude.{◌≤◌, length, option_map, option_copied};
+ghost use Rattle.algebra.specs.Rows.{Sorted, Nonzero, Bounded};
+ghost use Rattle.store.specs.Terms.{term, terms};
+ghost use Rattle.store.specs.Answers.{Handed};
 
 use crate::key::Key;
-use crate::shift::{insert_at, remove_at};
 use crate::slot::{Full, Slot};
-use std::cmp::Ordering;
 
-// Of the first `room` slots, the first `len` hold the contents. No ghost field says so: in a generic struct one cannot cite the key's
-// number. So the methods require and ensure `Sound`, and what the crate shows to others are structs over one type of key.
+// The slots are lent, with no heap to hold a Vec: the first `len` of them hold the contents.
 #[derive(Drop)]
 pub struct Table<'a, K: Key> {
     slots: &'a mut [Slot<K>],
-    room: usize,
     len: usize,
+    ghost within: { len ≤ length slots.now },
+    ghost sorted: { Sorted (terms K.number slots.now len) },
+    ghost nonzero: { Nonzero (terms K.number slots.now len) },
+    ghost bounded: { Bounded (terms K.number slots.now len) },
 }
 
 impl<'a, K: Key> Table<'a, K> {
-    // An empty table that uses the first `room` slots.
-    pub(crate) fn new(slots: &'a mut [Slot<K>], room: usize) -> Table<'a, K>
-        requires { room ≤ length slots.old }
-        ensures empty { contents K.number result ≡ [] }
-        ensures room { result.room ≡ room }
-        ensures sound { Sound K.number result }
+    ghost use Rattle.std.specs.Prelude.{◌≡◌, []};
+    ghost use Rattle.store.specs.Tables.{contents, room};
+
+    // An empty table over lent slots, whatever they held.
+    pub fn new(slots: &'a mut [Slot<K>]) -> Table<'a, K>
+        ensures empty { contents result ≡ [] }
+        ensures room { room result ≡ length slots.old }
     {
-        Table {
-            slots,
-            room,
-            len: 0,
-        }
+        Table { slots, len: 0 }
     }
 }
 
 impl<K: Key> Table<'_, K> {
-    pub(crate) fn count(&self) -> usize
-        requires { Sound K.number self.now }
-        ensures { result ≡ length (contents K.number self.now) }
+    ghost use Rattle.std.specs.Prelude.{◌≡◌, ◌<◌, false, [], take, is_ok, MatchResult};
+    ghost use Rattle.std.specs.List.{insert, remove};
+    ghost use Rattle.algebra.specs.Poly.{at, lowest as lowest_of, highest as highest_of};
+    ghost use Rattle.algebra.specs.Rows.{StandsAt, FallsAt};
+    ghost use Rattle.store.specs.Answers.{Handed, Wrote};
+    ghost use Rattle.store.specs.Stores.{at_most, fits};
+    ghost use Rattle.store.specs.Tables.{contents, room};
+
+    // How many keys stand.
+    pub fn count(&self) -> usize
+        ensures { result ≡ length (contents self.now) }
     {
-        self.len
+        self.standing().len()
     }
 
-    pub(crate) fn clear(&mut self)
-        requires { Sound K.number self.old }
-        ensures empty { contents K.number self.new ≡ [] }
-        ensures room { self.new.room ≡ self.old.room }
-        ensures sound { Sound K.number self.new }
+    // The slots of the keys that stand.
+    fn standing(&self) -> &[Slot<K>]
+        ensures { result.now ≡ take self.now.len self.now.slots.now }
     {
-        self.len = 0;
+        &self.slots[..self.len]
     }
 
     // Where the key stands, or else where it would.
     fn find(&self, key: &K) -> Result<usize, usize>
-        requires { Sound K.number self.now }
-        ensures bound { MatchResult result (λ i. i < self.now.len) (λ i. i ≤ self.now.len) }
-        ensures located { MatchResult result (StandsAt (contents K.number self.now) (K.number key.now)) (FallsAt (contents K.number self.now) (K.number key.now)) }
+        ensures { MatchResult result (StandsAt (contents self.now) (K.number key.now)) (FallsAt (contents self.now) (K.number key.now)) }
     {
-        let slots = &*self.slots;
-        let mut low = 0;
-        let mut high = self.len;
-        while low < high {
-            let middle = low + (high - low) / 2;
-            match slots[middle].key.compare(key) {
-                Ordering::Less => low = middle + 1,
-                Ordering::Equal => return Ok(middle),
-                Ordering::Greater => high = middle,
-            }
-        }
-        Err(low)
+        self.standing().binary_search_by(|slot| slot.key.cmp(key))
     }
 
     // The key's number, or 0 where it does not stand.
-    pub(crate) fn read(&self, key: &K) -> u32
-        requires { Sound K.number self.now }
-        ensures { result ≡ at (contents K.number self.now) (K.number key.now) }
+    pub fn read(&self, key: &K) -> u32
+        ensures { result ≡ at (contents self.now) (K.number key.now) }
     {
         match self.find(key) {
-            Ok(i) => {
-                let slots = &*self.slots;
-                slots[i].number
-            }
+            Ok(i) => self.slots[i].number,
             Err(_) => 0,
         }
     }
 
-    // The lowest key goes into `place`, and its number is the answer.
-    pub(crate) fn lowest(&self, place: &mut K) -> Option<u32>
-        requires { Sound K.number self.now }
-        ensures { Handed K.number (lowest_of (contents K.number self.now)) result place.old place.new }
+    // The lowest key goes into a place that the caller lends, and its number is the answer; with none, the place stays as it was.
+    pub fn lowest(&self, place: &mut K) -> Option<u32>
+        ensures { Handed K.number (lowest_of (contents self.now)) result place.old place.new }
     {
-        if self.len == 0 {
-            return None;
-        }
-        let slots = &*self.slots;
-        let first = slots[0];
-        *place = first.key;
-        Some(first.number)
+        hand_out(self.standing().first(), place)
     }
 
-    // The highest key goes into `place`, and its number is the answer.
-    pub(crate) fn highest(&self, place: &mut K) -> Option<u32>
-        requires { Sound K.number self.now }
-        ensures { Handed K.number (highest_of (contents K.number self.now)) result place.old place.new }
+    // The highest key, likewise.
+    pub fn highest(&self, place: &mut K) -> Option<u32>
+        ensures { Handed K.number (highest_of (contents self.now)) result place.old place.new }
     {
-        if self.len == 0 {
-            return None;
-        }
-        let slots = &*self.slots;
-        let last = slots[self.len - 1];
-        *place = last.key;
-        Some(last.number)
+        hand_out(self.standing().last(), place)
+    }
+
+    // Takes every key out.
+    pub fn clear(&mut self)
+        ensures empty { contents self.new ≡ [] }
+        ensures room { room self.new ≡ room self.old }
+    {
+        self.len = 0;
     }
 
     // Puts the key with a number, in the place of the number that it had; 0 removes the key. Where there is no room for one more key,
     // nothing changes.
-    pub(crate) fn write(&mut self, key: &K, value: u32) -> Result<(), Full>
-        requires { Sound K.number self.old }
-        ensures wrote { Wrote (fits (at_most self.old.room)) (contents K.number self.old) (K.number key.now) value (contents K.number self.new) (is_ok result) }
+    pub fn write(&mut self, key: &K, value: u32) -> Result<(), Full>
+        ensures wrote { Wrote (fits (at_most (room self.old))) (contents self.old) (K.number key.now) value (contents self.new) (is_ok result) }
         ensures refused { is_ok result ≡ false → self.new ≡ self.old }
-        ensures room { self.new.room ≡ self.old.room }
-        ensures sound { Sound K.number self.new }
+        ensures room { room self.new ≡ room self.old }
+    {
+        match (self.find(key), value) {
+            (Ok(i), 0) => self.remove(i),
+            (Ok(i), _) => self.slots[i].number = value,
+            (Err(_), 0) => {}
+            (Err(_), _) if self.len == self.slots.len() => return Err(Full),
+            (Err(i), number) => self.insert(i, Slot { key: *key, number }),
+        }
+        Ok(())
+    }
+
+    // Takes out the slot at `i`.
+    fn remove(&mut self, i: usize)
+        requires { i < self.old.len }
+        ensures after { contents self.new ≡ remove (contents self.old) i }
+        ensures room { room self.new ≡ room self.old }
+    {
+        self.slots.copy_within(i + 1..self.len, i);
+        self.len -= 1;
+    }
+
+    // Puts a slot in at `i`, where its key falls.
+    fn insert(&mut self, i: usize, slot: Slot<K>)
+        requires falls { FallsAt (contents self.old) (K.number slot.key) i }
+        requires nonzero { 0 < slot.number }
+        requires free { self.old.len < room self.old }
+        ensures after { contents self.new ≡ insert (contents self.old) i (K.number slot.key, slot.number) }
+        ensures room { room self.new ≡ room self.old }
     {
         let n = self.len;
-        let slot = Slot {
-            key: *key,
-            number: value,
-        };
-        match self.find(key) {
-            Ok(i) => {
-                if value == 0 {
-                    remove_at(&mut *self.slots, n, i);
-                    self.len = n - 1;
-                } else {
-                    let slots = &mut *self.slots;
-                    slots[i] = slot;
-                }
-                Ok(())
-            }
-            Err(i) => {
-                if value == 0 {
-                    return Ok(());
-                }
-                if n == self.room {
-                    return Err(Full);
-                }
-                insert_at(&mut *self.slots, n, i, slot);
-                self.len = n + 1;
-                Ok(())
-            }
-        }
+        let slots = &mut *self.slots;
+        slots.copy_within(i..n, i + 1);
+        slots[i] = slot;
+        self.len = n + 1;
     }
+}
+
+// The key of a slot goes into `place`, and its number is the answer; with no slot, the place stays as it was.
+fn hand_out<K: Key>(slot: Option<&Slot<K>>, place: &mut K) -> Option<u32>
+    ensures { Handed K.number (option_map (term K.number) (option_copied slot.entry)) result place.old place.new }
+{
+    let slot = slot?;
+    *place = slot.key;
+    Some(slot.number)
 }

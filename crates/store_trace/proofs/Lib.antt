@@ -1,3 +1,2 @@
 pub mod Drained
-pub mod Written
-pub mod Numerals
+pub mod Agreed

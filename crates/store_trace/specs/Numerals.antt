@@ -2,7 +2,7 @@
 --     ReadsBelow limit bytes r   r is the number that the bytes write as decimal digits; none where they are no such digits, or the number is not below the limit
 --     AreRanks xs                all are below 512
 --     set_of xs                  the set of some ranks
-use Rattle.std.specs.Prelude.{ℕ, ◌<◌, List, length, fold, Option, slice_index}
+use Rattle.std.specs.Prelude.{ℕ, ◌<◌, List, All, fold, Option}
 use Rattle.std.specs.Option.{SomeIff}
 use Rattle.std.specs.Str.Parse.{IsNumeral, digits_value}
 use Rattle.algebra.specs.Sets.{inserted}
@@ -11,7 +11,7 @@ abbrev pub ReadsBelow : ℕ → List ℕ → Option ℕ → Type 0
 ReadsBelow limit bytes r = SomeIff r (IsNumeral 10 bytes × (digits_value 10 bytes < limit)) (digits_value 10 bytes)
 
 abbrev pub AreRanks : List ℕ → Type 0
-AreRanks xs = (k : ℕ) → k < length xs → slice_index xs k < 512
+AreRanks xs = All (λ k. k < 512) xs
 
 abbrev pub set_of : List ℕ → ℕ
 set_of xs = fold inserted 0 xs

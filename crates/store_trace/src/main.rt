@@ -17,14 +17,12 @@ use store::check::check_slots;
 use store::row::Row;
 use store::slot::Slot;
 
-mod entry;
 mod input;
 mod show;
 mod steps;
 
-use entry::Entry;
-use input::{Trace, read_trace};
-use show::Listed;
+use input::{Malformed, Trace, read_trace};
+use show::{Listed, Shown};
 use steps::{drain, step_both};
 
 // Runs each write over both stores, and prints it with what they answer.
@@ -32,16 +30,16 @@ fn run_writes<R: Store, B: Store>(
     rt: &impl Print,
     row: &mut R,
     buckets: &mut B,
-    writes: &[Entry],
+    writes: &[Slot<RankSet>],
 ) -> anyhow::Result<()>
     ensures row { OnOk result (R.Store.poly row.new ≡ fold (after (R.Store.room row.old)) (R.Store.poly row.old) writes.now) }
     ensures buckets { OnOk result (B.Store.poly buckets.new ≡ fold (after (B.Store.room buckets.old)) (B.Store.poly buckets.old) writes.now) }
 {
     for write in writes {
         match step_both(row, buckets, write) {
-            Some(answer) => println!(rt; "write {write}: {answer}")?,
+            Some(answer) => println!(rt; "write {}: {answer}", Shown(write))?,
             None => {
-                println!(rt; "write {write}: row and buckets disagree")?;
+                println!(rt; "write {}: row and buckets disagree", Shown(write))?;
                 return Err(anyhow!("row and buckets disagree"));
             }
         }
@@ -58,26 +56,17 @@ fn print_closing<S: Store>(
     ensures { OnOk result (S.Store.poly store.new ≡ []) }
 {
     let all = drain(rt.alloc(), store)?;
-    let listed = Listed(&all);
-    println!(rt; "{name}: {listed}")?;
+    println!(rt; "{name}: {}", Listed(&all))?;
     Ok(())
 }
 
-// Runs a trace over two stores.
-fn run_over<R: Store, B: Store>(
-    rt: &(impl Print + AllocGlobal),
-    row: &mut R,
-    buckets: &mut B,
-    trace: &Trace,
-) -> anyhow::Result<()> {
-    run_writes(rt, row, buckets, &trace.writes)?;
-    if !trace.whole {
-        let line = trace.line;
-        println!(rt; "line {line} is no write")?;
-        return Err(anyhow!("a line is no write"));
-    }
-    print_closing(rt, "row", row)?;
-    print_closing(rt, "buckets", buckets)
+// Prints which line is malformed, and fails.
+fn report(rt: &impl Print, malformed: Malformed) -> anyhow::Result<()> {
+    println!(rt; "{malformed}")?;
+    Err(match malformed {
+        Malformed::NoSlots { .. } => anyhow!("there is no number of slots"),
+        Malformed::NoWrite { .. } => anyhow!("a line is no write"),
+    })
 }
 
 // Whether both stores take so many slots.
@@ -89,7 +78,8 @@ fn check_both(slots: usize) -> Result<(), Refusal>
 }
 
 // Makes the two stores, and runs a trace over them.
-fn run(rt: &(impl Print + AllocGlobal), slots: usize, trace: &Trace) -> anyhow::Result<()> {
+fn run(rt: &(impl Print + AllocGlobal), trace: &Trace) -> anyhow::Result<()> {
+    let slots = trace.slots;
     if let Err(refusal) = check_both(slots) {
         println!(rt; "{refusal}")?;
         return Ok(());
@@ -103,17 +93,17 @@ fn run(rt: &(impl Print + AllocGlobal), slots: usize, trace: &Trace) -> anyhow::
     let mut terms = vec![in rt.alloc(); Term::blank(); slots]?;
     let mut row = Row::new(&mut row_slots);
     let mut buckets = Buckets::new(&mut terms);
-    run_over(rt, &mut row, &mut buckets, trace)
+    run_writes(rt, &mut row, &mut buckets, &trace.writes)?;
+    if let Err(malformed) = trace.end {
+        return report(rt, malformed);
+    }
+    print_closing(rt, "row", &mut row)?;
+    print_closing(rt, "buckets", &mut buckets)
 }
 
 fn main(rt: HostRuntime) -> anyhow::Result<()> {
-    let trace = read_trace(&rt)?;
-    match trace.slots {
-        Some(slots) => run(&rt, slots, &trace),
-        None => {
-            let line = trace.line;
-            println!(rt; "line {line} is no number of slots")?;
-            Err(anyhow!("there is no number of slots"))
-        }
+    match read_trace(&rt)? {
+        Ok(trace) => run(&rt, &trace),
+        Err(malformed) => report(&rt, malformed),
     }
 }

@@ -1,60 +1,55 @@
-// How entries and answers are printed.
-use crate::entry::Entry;
+// How writes and answers are printed.
 use crate::steps::Answer;
 use sets::RankSet;
 use std::fmt;
+use store::slot::Slot;
 
 // The ranks of a set, rising, with spaces between them; a dash where there are none.
-fn write_ranks<W: fmt::Write>(set: &RankSet, f: &mut fmt::Formatter<W>) -> fmt::Result {
-    let mut ranks = set.ranks();
-    match ranks.next() {
-        None => return write!(f, "-"),
-        Some(rank) => write!(f, "{rank}")?,
+#[derive(Drop)]
+struct Ranks<'a>(&'a RankSet);
+
+impl fmt::Display for Ranks<'_> {
+    fn fmt<W: fmt::Write>(&self, f: &mut fmt::Formatter<W>) -> fmt::Result {
+        match self.0.lowest() {
+            None => f.write_str("-"),
+            Some(_) => f.write_joined(self.0.ranks(), " "),
+        }
     }
-    for rank in ranks {
-        write!(f, " {rank}")?;
-    }
-    Ok(())
 }
 
-impl fmt::Display for Entry {
+// A number at a set.
+#[derive(Drop)]
+pub struct Shown<'a>(pub &'a Slot<RankSet>);
+
+impl fmt::Display for Shown<'_> {
     fn fmt<W: fmt::Write>(&self, f: &mut fmt::Formatter<W>) -> fmt::Result {
-        let number = self.number;
-        write!(f, "{number} at ")?;
-        write_ranks(&self.set, f)
+        write!(f, "{} at {}", self.0.number, Ranks(&self.0.key))
+    }
+}
+
+// Numbers at sets, with commas between them.
+#[derive(Drop)]
+pub struct Listed<'a>(pub &'a [Slot<RankSet>]);
+
+impl fmt::Display for Listed<'_> {
+    fn fmt<W: fmt::Write>(&self, f: &mut fmt::Formatter<W>) -> fmt::Result {
+        if self.0.is_empty() {
+            return f.write_str("nothing");
+        }
+        f.write_joined(self.0.iter().map(Shown), ", ")
     }
 }
 
 impl fmt::Display for Answer {
     fn fmt<W: fmt::Write>(&self, f: &mut fmt::Formatter<W>) -> fmt::Result {
         let word = if self.granted { "written" } else { "refused" };
-        let count = self.count;
-        write!(f, "{word}, standing {count}")?;
-        if let Some(lowest) = self.lowest {
-            write!(f, ", lowest {lowest}")?;
+        write!(f, "{word}, standing {}", self.count)?;
+        if let Some(lowest) = &self.lowest {
+            write!(f, ", lowest {}", Shown(lowest))?;
         }
-        if let Some(highest) = self.highest {
-            write!(f, ", highest {highest}")?;
+        if let Some(highest) = &self.highest {
+            write!(f, ", highest {}", Shown(highest))?;
         }
         Ok(())
-    }
-}
-
-// Entries in a row, with commas between them.
-#[derive(Drop)]
-pub struct Listed<'a>(pub &'a [Entry]);
-
-impl fmt::Display for Listed<'_> {
-    fn fmt<W: fmt::Write>(&self, f: &mut fmt::Formatter<W>) -> fmt::Result {
-        match self.0 {
-            [] => write!(f, "nothing"),
-            [first, rest @ ..] => {
-                write!(f, "{first}")?;
-                for entry in rest {
-                    write!(f, ", {entry}")?;
-                }
-                Ok(())
-            }
-        }
     }
 }

@@ -1,11 +1,10 @@
 // The calls on a bucket table.
-ghost use Rattle.std.specs.Prelude.{◌≡◌, ◌≤◌, [], length};
+ghost use Rattle.std.specs.Prelude.{◌≡◌, [], length};
 ghost use Rattle.store.specs.Stores.{at_most, taken};
 ghost use Rattle.buckets.specs.Bucketed.{bucket_poly, bucket_room, AlwaysSpread, bucket_laws};
 
 use crate::bucket::Buckets;
-use crate::end::End;
-use crate::table::Table;
+use crate::chains::wipe;
 use crate::term::Term;
 use sets::RankSet;
 use store::Store;
@@ -21,19 +20,9 @@ impl<'a> Buckets<'a> {
         ensures spread { AlwaysSpread }
     {
         let n = slots_taken::<Buckets<'_>>(slots.len());
-        Buckets::over(&mut slots[..n])
-    }
-
-    // An empty table over so many records as a table takes, or none.
-    fn over(slots: &'a mut [Term]) -> Buckets<'a>
-        requires { length slots.old ≤ 65536 }
-        ensures empty { bucket_poly result ≡ [] }
-        ensures room { bucket_room result ≡ at_most (length slots.old) }
-        ensures spread { AlwaysSpread }
-    {
-        Buckets {
-            table: Table::new(slots),
-        }
+        let slots = &mut slots[..n];
+        wipe(slots);
+        Buckets { slots, count: 0 }
     }
 }
 
@@ -55,26 +44,49 @@ impl Store for Buckets<'_> {
     }
 
     fn clear(&mut self) {
-        self.table.clear();
+        wipe(&mut *self.slots);
+        self.count = 0;
     }
 
     fn read(&self, set: &RankSet) -> u32 {
-        self.table.read(set)
+        match self.slot_of(set) {
+            Some(i) => self.slots[i].code,
+            None => 0,
+        }
     }
 
+    // The two ends differ in one method of the iterator, and the place is the caller's.
     fn highest(&self, place: &mut RankSet) -> Option<u32> {
-        self.table.hand_out(End::High, place)
+        let highest = self
+            .slots
+            .iter()
+            .filter(|t| t.code != 0)
+            .max_by_key(|t| t.set)?;
+        *place = highest.set;
+        Some(highest.code)
     }
 
     fn lowest(&self, place: &mut RankSet) -> Option<u32> {
-        self.table.hand_out(End::Low, place)
+        let lowest = self
+            .slots
+            .iter()
+            .filter(|t| t.code != 0)
+            .min_by_key(|t| t.set)?;
+        *place = lowest.set;
+        Some(lowest.code)
     }
 
     fn count(&self) -> usize {
-        self.table.count()
+        self.count
     }
 
     fn write(&mut self, set: &RankSet, value: u32) -> Result<(), Full> {
-        self.table.write(set, value)
+        match (self.slot_of(set), value) {
+            (Some(i), 0) => self.remove(i),
+            (Some(i), _) => self.replace(i, value),
+            (None, 0) => {}
+            (None, _) => self.insert(set, value)?,
+        }
+        Ok(())
     }
 }

@@ -1,16 +1,12 @@
-use Rattle.std.proofs.Common.{refl}
-use Rattle.buckets.proofs.Wipes.{wiped_start, wiped_more, wiped_means, wiped_sound}
 use Rattle.buckets.proofs.Spreads.{spread}
+use Rattle.buckets.proofs.Wipes.{wiped_means, wiped_sound}
 use Rattle.buckets.proofs.chains.wipe.Goals as goal
 
-pub loop-k-init : goal.loop-k-init
-loop-k-init c = wiped_start _
+pub returns-clause-sound : goal.returns-clause-sound
+returns-clause-sound c = wiped_sound _ _ _ c.loop-k.invariant c.loop-k-test.false c.requires
 
-pub loop-k-preserved : goal.loop-k-preserved
-loop-k-preserved c = wiped_more _ _ _ _ c.loop-k.invariant c.loop-k-test.true refl refl refl
+pub returns-clause-means : goal.returns-clause-means
+returns-clause-means c = wiped_means _ _ _ c.loop-k.invariant c.loop-k-test.false c.requires
 
-pub returns : goal.returns
-returns c =
-    let w = c.loop-k.invariant in
-    let l = c.loop-k-test.false in
-    record { sound = wiped_sound _ _ _ w l c.requires; long = w.long; means = wiped_means _ _ _ w l c.requires; law = spread }
+pub returns-clause-law : goal.returns-clause-law
+returns-clause-law c = spread

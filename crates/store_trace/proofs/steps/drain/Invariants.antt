@@ -1,10 +1,11 @@
 use Rattle.std.proofs.Common.{◌≡◌, ◌++◌, map, length, vec_items}
-use Rattle.store_trace.specs.Told.{term}
+use Rattle.sets.specs.Numbers.{number}
+use Rattle.store.specs.Terms.{term}
 use Rattle.store_trace.proofs.steps.drain.Given as goal
 
 -- what was taken, and then what still stands
-abbrev pub invariant-loop-entry : goal.invariant-loop-entry
-invariant-loop-entry g l = map term (vec_items l.all) ++ g.S.Store.poly l.store ≡ g.S.Store.poly l.initial.store
+abbrev pub invariant-loop-lowest : goal.invariant-loop-lowest
+invariant-loop-lowest g l = map (term number) (vec_items l.all) ++ g.S.Store.poly l.store ≡ g.S.Store.poly l.initial.store
 
-abbrev pub decreases-loop-entry : goal.decreases-loop-entry
-decreases-loop-entry g l = length (g.S.Store.poly l.store)
+abbrev pub decreases-loop-lowest : goal.decreases-loop-lowest
+decreases-loop-lowest g l = length (g.S.Store.poly l.store)

@@ -1,18 +1,17 @@
-use Rattle.std.proofs.Common.{arith}
-use Rattle.store.proofs.Halving.{narrowed_up, narrowed_down, narrowed_here, narrowed_none}
+use Rattle.std.proofs.Common.{rules}
+use Rattle.std.specs.Ordering.{nat_cmp}
+use Rattle.std.proofs.lemmas.Fn.{always_returns_same}
+use Rattle.store.proofs.Searches.{searched}
 use Rattle.store.proofs.table.Table.find.Goals as goal
 
-pub loop-low-preserved-in-Less : goal.loop-low-preserved-in-Less
-loop-low-preserved-in-Less g c = narrowed_up _ _ _ (omega arith) c.requires.2 _ _ _ _ _ c.loop-low.invariant (omega arith) (omega arith) c.in-Less.ensures
-
-pub returns-in-Equal : goal.returns-in-Equal
-returns-in-Equal g c = record {
-  bound = omega arith;
-  located = narrowed_here g.K.Key.number c.args.self.now.slots.now c.args.self.now.len (omega arith) c.requires.2 _ _ _ (omega arith) c.in-Equal.ensures;
-}
-
-pub loop-low-preserved : goal.loop-low-preserved
-loop-low-preserved g c = narrowed_down _ _ _ (omega arith) c.requires.2 _ _ _ _ _ c.loop-low.invariant (omega arith) (omega arith) c.in-Greater.ensures
-
+-- the closure compares a slot's key, and the slice is the standing slots
 pub returns : goal.returns
-returns g c = record { bound = omega arith; located = narrowed_none _ _ _ (omega arith) c.requires.2 _ _ _ c.loop-low.invariant c.loop-low-test.false }
+returns g c =
+    let number = g.K.Key.number in
+    let key = c.args.key.now in
+    let facts = c.binary_search_by.ensures in
+    let by_key =
+    facts.position (λ slot. nat_cmp (number slot.key) (number key))
+    (always_returns_same _ _ _ (λ a r h called. let law = g.met.K.Key.by_number a.0.now.key key in search rules))
+    in
+    rw (← c.standing.ensures) (searched number c.standing.result.now (rw c.standing.ensures c.args.self.now.sorted) key _ facts.bound by_key)

@@ -1,6 +1,6 @@
-use Rattle.std.proofs.Common.{arith}
-use Rattle.store.proofs.Places.{handed_highest}
+use Rattle.store.specs.Terms.{term}
+use Rattle.store.proofs.Ends.{highest_is_last}
 use Rattle.store.proofs.table.Table.highest.Goals as goal
 
 pub returns : goal.returns
-returns g c = handed_highest g.K.Key.number c.args.self.now.slots.now c.args.self.now.len (omega arith) _ _ (omega arith) c.index-slots-self.is
+returns g c = rw (highest_is_last (term g.K.Key.number) _, ← c.standing.ensures, ← c.last.ensures.value) c.hand_out.ensures

@@ -1,32 +1,47 @@
-use Rattle.std.proofs.Common.{refl, rules}
-use Rattle.std.proofs.lemmas.Bool.{true≢false}
-use Rattle.store.proofs.Writes.{granted_removed, granted_set, granted_none, granted_inserted, refused}
+use Rattle.std.proofs.Common.{◌≤◌, ap, subst, ◌∙◌, sym, rules, arith}
+use Rattle.algebra.specs.Poly.{put}
+use Rattle.algebra.proofs.Rows.{length_first}
+use Rattle.store.specs.Terms.{term}
+use Rattle.store.specs.Tables.{contents, room}
+use Rattle.store.proofs.Places.{contents_within}
+use Rattle.store.proofs.Writes.{removed, inserted, nothing, slot_replaced, granted, refused, formed_put}
 use Rattle.store.proofs.table.Table.write.Goals as goal
 
-pub returns-then-value-eq0-2 : goal.returns-then-value-eq0-2
-returns-then-value-eq0-2 g c =
-    let d = granted_none g.K.Key.number _ _ _ c.requires _ _ _ (search rules) c.in-Err.ensures.located c.if-value-eq0-2.true in
-    record { wrote = d.wrote; refused = λ _. refl; room = refl; sound = d.sound }
+pub invariant_of-self : goal.invariant_of-self
+invariant_of-self g c =
+    let t = c.args.self.now in
+    let v = c.in-Ok-default in
+    let f = formed_put t _ _ _ (search rules) (slot_replaced t _ c.args.value v.i c.index-self-i.result v.ensures v.is-1.1) in
+    record { within = search rules; sorted = f.sorted; nonzero = f.nonzero; bounded = f.bounded }
 
-pub returns-then-n-self : goal.returns-then-n-self
-returns-then-n-self g c = record {
-  wrote = refused g.K.Key.number _ _ _ c.requires _ _ _ c.if-n-self.true c.in-Err.ensures.located c.if-value-eq0-2.false;
-  refused = λ _. refl;
-  room = refl;
-  sound = c.requires;
-}
+pub returns-in-Ok-eq0-clause-wrote : goal.returns-in-Ok-eq0-clause-wrote
+returns-in-Ok-eq0-clause-wrote g c =
+    let t = c.args.self.now in
+    let v = c.in-Ok-eq0 in
+    granted t _ _ _ (omega (arith, contents_within c.remove.new.self, c.remove.ensures.room))
+    (c.remove.ensures.after ∙ removed (contents t) _ v.i t.sorted v.ensures ∙ ap (put (contents t) _) (sym v.is-1))
 
-pub returns-then-value-eq0 : goal.returns-then-value-eq0
-returns-then-value-eq0 g c =
-    let d = granted_removed g.K.Key.number _ _ _ c.requires _ _ _ c.remove_at.new.s (search rules) c.remove_at.ensures.len c.remove_at.ensures.after c.in-Ok.ensures.located c.if-value-eq0.true in
-    record { wrote = d.wrote; refused = λ e. absurd (true≢false e); room = refl; sound = d.sound }
+pub returns-in-Ok-default-clause-wrote : goal.returns-in-Ok-default-clause-wrote
+returns-in-Ok-default-clause-wrote g c =
+    let t = c.args.self.now in
+    let v = c.in-Ok-default in
+    let long = length_first (term g.K.Key.number) _ t.len (search rules) in
+    granted t _ _ _ (subst (λ m. m ≤ room t) (sym long) t.within) (slot_replaced t _ c.args.value v.i c.index-self-i.result v.ensures v.is-1.1)
 
-pub returns-else-value-eq0 : goal.returns-else-value-eq0
-returns-else-value-eq0 g c =
-    let d = granted_set g.K.Key.number c.args.self.now.slots.now c.args.self.now.len _ c.requires (record { key = c.args.key.now; number = c.args.value }) c.in-Ok.i (search rules) c.in-Ok.ensures.bound c.in-Ok.ensures.located c.if-value-eq0.false in
-    record { wrote = d.wrote; refused = λ e. absurd (true≢false e); room = refl; sound = d.sound }
+pub returns-in-Err-eq0-clause-wrote : goal.returns-in-Err-eq0-clause-wrote
+returns-in-Err-eq0-clause-wrote g c =
+    let t = c.args.self.now in
+    let v = c.in-Err-eq0 in
+    granted t _ _ _ (contents_within t) (nothing (contents t) _ v.field-0-0 v.ensures ∙ ap (put (contents t) _) (sym v.is-1))
 
-pub returns-else-n-self : goal.returns-else-n-self
-returns-else-n-self g c =
-    let d = granted_inserted g.K.Key.number _ _ _ c.requires (record { key = c.args.key.now; number = c.args.value }) _ c.insert_at.new.s (search rules) c.if-n-self.false c.insert_at.ensures.len c.insert_at.ensures.after c.in-Err.ensures.located c.if-value-eq0-2.false in
-    record { wrote = d.wrote; refused = λ e. absurd (true≢false e); room = refl; sound = d.sound }
+pub returns-in-Err-default-clause-wrote : goal.returns-in-Err-default-clause-wrote
+returns-in-Err-default-clause-wrote g c =
+    let v = c.in-Err-default in
+    refused c.args.self.now _ _ v.field-0-0 c.if-self.true v.ensures v.is-1.1
+
+pub returns-in-Err-default-2-clause-wrote : goal.returns-in-Err-default-2-clause-wrote
+returns-in-Err-default-2-clause-wrote g c =
+    let t = c.args.self.now in
+    let v = c.in-Err-default in
+    granted t _ _ _ (omega (arith, contents_within c.insert.new.self, c.insert.ensures.room))
+    (c.insert.ensures.after ∙ inserted (contents t) (g.K.Key.number c.args.key.now) v.field-0-0 c.args.value v.ensures v.is-1.1)
