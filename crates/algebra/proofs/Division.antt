@@ -2,17 +2,14 @@
 use Rattle.std.proofs.Common.{◌≡◌, ℕ, suc, ◌-◌, ◌*◌, ◌/◌, ◌%◌, ◌^◌, ◌<◌, subst, arith}
 use lib.Bits.{bit_xor}
 use Rattle.algebra.specs.Gf2.{Degree, remainder}
-use Rattle.algebra.proofs.Bitsets.{bit_part, bit_clear}
+use Rattle.algebra.proofs.Bitsets.{bit_part}
 use Rattle.algebra.proofs.Remainders.{tops, shift_degree, remainder_shift}
 
 module _ (i x : ℕ) (some : 0 < i) (short : x < 2 ^ i) where
   below : x < 2 ^ suc (i - 1)
   below = subst (λ n. x < 2 ^ n) (omega arith) short
 
-  pub bit_cleared : (x / 2 ^ (i - 1) % 2 ≡ 1 → ⊥) → x < 2 ^ (i - 1)
-  bit_cleared = bit_clear x (i - 1) below
-
-  -- where x has that bit, X^(i - 1 - k) · p is taken away
+  -- where x has the bit i - 1, X^(i - 1 - k) · p is taken away
   pub division_step : (k p : ℕ) → Degree k p → k < i → x / 2 ^ (i - 1) % 2 ≡ 1
       → (bit_xor x (p * 2 ^ (i - 1 - k)) < 2 ^ (i - 1)) × (remainder k p (bit_xor x (p * 2 ^ (i - 1 - k))) ≡ remainder k p x)
   division_step k p deg l e =

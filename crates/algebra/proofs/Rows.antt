@@ -1,26 +1,21 @@
 -- The facts of a polynomial's list by places are those of its form; what reading and writing do at the place that a search gives.
-use Rattle.std.proofs.Common.{◌≡◌, ℕ, zero, suc, ◌^◌, ◌<◌, ◌≤◌, List, [], ◌∷◌, ◌++◌, map, length, get_or, take, drop, Some, sym, refl, ap, ◌∙◌, arith}
+use Rattle.std.proofs.Common.{◌≡◌, ℕ, zero, suc, ◌^◌, ◌<◌, ◌≤◌, List, [], ◌∷◌, ◌++◌, map, length, take, drop, sym, refl, ap, ◌∙◌, arith}
 use Rattle.std.specs.List.{AllByRecursion as All}
 use Rattle.std.proofs.lemmas.List.{length-map, length-take-le}
 use Rattle.std.proofs.lemmas.Bool.{eq-eqb, ne_eqb}
-use Rattle.algebra.specs.Poly.{Poly, at, front, put, standing, lowest, highest, Above, Rising}
+use Rattle.algebra.specs.Poly.{Poly, at, front, put, standing, Above, Rising}
 use Rattle.algebra.specs.Rows.{set_at, number_at, Sorted, Nonzero, Bounded, StandsAt, FallsAt}
 use Rattle.algebra.proofs.Polys.{put_below, put_here, put_above, put_cases}
 
 -- ---- by places and by form
-pub above_at : (p : Poly) (S : ℕ) → Above S p → (k : ℕ) → k < length p → S < set_at p k
-above_at [] S h k l = absurd (omega arith)
-above_at (t ∷ p) S h zero l = h.0
-above_at (t ∷ p) S h (suc k) l = above_at p S h.1 k (omega arith)
-
-pub above_from : (p : Poly) (S : ℕ) → ((k : ℕ) → k < length p → S < set_at p k) → Above S p
+above_from : (p : Poly) (S : ℕ) → ((k : ℕ) → k < length p → S < set_at p k) → Above S p
 above_from [] S h = tt
 above_from (t ∷ p) S h = (h 0 (omega arith), above_from p S (λ k l. h (suc k) (omega arith)))
 
-pub sorted_tail : (t : ℕ × ℕ) (p : Poly) → Sorted (t ∷ p) → Sorted p
+sorted_tail : (t : ℕ × ℕ) (p : Poly) → Sorted (t ∷ p) → Sorted p
 sorted_tail t p h i l = h (suc i) (omega arith)
 
-pub sorted_first : (t : ℕ × ℕ) (p : Poly) → Sorted (t ∷ p) → (k : ℕ) → k < length p → t.0 < set_at p k
+sorted_first : (t : ℕ × ℕ) (p : Poly) → Sorted (t ∷ p) → (k : ℕ) → k < length p → t.0 < set_at p k
 sorted_first t p h zero l = h 0 (omega arith)
 sorted_first t p h (suc k) l = omega (arith, sorted_first t p h k (omega arith), h (suc k) (omega arith))
 
@@ -36,7 +31,8 @@ rising_from (t ∷ p) h n = (n 0 (omega arith), above_from p t.0 (sorted_first t
 
 pub sorted_from : (p : Poly) → Rising p → Sorted p
 sorted_from [] h i l = absurd (omega arith)
-sorted_from (t ∷ p) h zero l = above_at p t.0 h.1 0 (omega arith)
+sorted_from (t ∷ []) h zero l = absurd (omega arith)
+sorted_from (t ∷ (u ∷ p)) h zero l = h.1.0
 sorted_from (t ∷ p) h (suc i) l = sorted_from p h.2 i (omega arith)
 
 pub nonzero_from : (p : Poly) → Rising p → Nonzero p
@@ -76,22 +72,22 @@ falls_tail t p S i h =
     let w = h.within in
     record { within = omega arith; below = λ k l. h.below (suc k) (omega arith); above = λ k l m. h.above (suc k) (omega arith) (omega arith) }
 
-pub at_stands : (p : Poly) (S i : ℕ) → Sorted p → StandsAt p S i → at p S ≡ number_at p i
-at_stands [] S i up h = let w = h.within in absurd (omega arith)
-at_stands (t ∷ p) S zero up h = rw (eq-eqb t.0 S h.is)
-at_stands (t ∷ p) S (suc i) up h =
+pub read_stands : (p : Poly) (S i : ℕ) → Sorted p → StandsAt p S i → at p S ≡ number_at p i
+read_stands [] S i up h = let w = h.within in absurd (omega arith)
+read_stands (t ∷ p) S zero up h = rw (eq-eqb t.0 S h.is)
+read_stands (t ∷ p) S (suc i) up h =
     let w = h.within in let e = h.is in let f = sorted_first t p up i (omega arith) in
-    rw (ne_eqb t.0 S (λ q. omega arith)) (at_stands p S i (sorted_tail t p up) (stands_tail t p S i h))
+    rw (ne_eqb t.0 S (λ q. omega arith)) (read_stands p S i (sorted_tail t p up) (stands_tail t p S i h))
 
-pub at_falls : (p : Poly) (S i : ℕ) → FallsAt p S i → at p S ≡ 0
-at_falls [] S i h = refl
-at_falls (t ∷ p) S zero h =
+pub read_falls : (p : Poly) (S i : ℕ) → FallsAt p S i → at p S ≡ 0
+read_falls [] S i h = refl
+read_falls (t ∷ p) S zero h =
     let f = h.above 0 (omega arith) (omega arith) in
     rw (ne_eqb t.0 S (λ q. omega arith))
-    (at_falls p S zero (record { within = omega arith; below = λ k l. absurd (omega arith); above = λ k l m. h.above (suc k) (omega arith) (omega arith) }))
-at_falls (t ∷ p) S (suc i) h =
+    (read_falls p S zero (record { within = omega arith; below = λ k l. absurd (omega arith); above = λ k l m. h.above (suc k) (omega arith) (omega arith) }))
+read_falls (t ∷ p) S (suc i) h =
     let f = h.below 0 (omega arith) in
-    rw (ne_eqb t.0 S (λ q. omega arith)) (at_falls p S i (falls_tail t p S i h))
+    rw (ne_eqb t.0 S (λ q. omega arith)) (read_falls p S i (falls_tail t p S i h))
 
 pub put_stands : (p : Poly) (S v i : ℕ) → Sorted p → StandsAt p S i → put p S v ≡ take i p ++ front S v (drop (suc i) p)
 put_stands [] S v i up h = let w = h.within in absurd (omega arith)
@@ -116,15 +112,3 @@ length_standing p = length-map p (λ (t : ℕ × ℕ). t.0)
 
 pub length_first : {X : Type 0} (f : X → ℕ × ℕ) (xs : List X) (n : ℕ) → n ≤ length xs → length (map f (take n xs)) ≡ n
 length_first f xs n h = length-map (take n xs) f ∙ length-take-le n xs h
-
--- ---- the ends
-pub lowest_is : (p : Poly) → 0 < length p → lowest p ≡ Some (get_or p 0 (0, 0))
-lowest_is [] h = absurd (omega arith)
-lowest_is (t ∷ p) h = refl
-
-pub highest_is : (p : Poly) (i : ℕ) → length p ≡ suc i → highest p ≡ Some (get_or p i (0, 0))
-highest_is [] i h = absurd (omega arith)
-highest_is (t ∷ []) zero h = refl
-highest_is (t ∷ []) (suc i) h = absurd (omega arith)
-highest_is (t ∷ (u ∷ p)) zero h = absurd (omega arith)
-highest_is (t ∷ (u ∷ p)) (suc i) h = highest_is (u ∷ p) i (omega arith)

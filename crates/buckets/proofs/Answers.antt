@@ -1,5 +1,5 @@
 -- What a table answers.
-use Rattle.std.proofs.Common.{◌≡◌, ℕ, ◌<◌, ◌≤◌, true, false, List, length, sym, refl, ap, ◌∙◌, arith}
+use Rattle.std.proofs.Common.{◌≡◌, ℕ, ◌<◌, true, false, List, length, sym, refl, ap, ◌∙◌, arith}
 use Rattle.std.proofs.lemmas.Bool.{le-leb, lt-leb}
 use Rattle.algebra.specs.Poly.{Poly, at, put, standing}
 use Rattle.algebra.specs.Gathered.{gather, Absent}
@@ -12,12 +12,7 @@ use Rattle.buckets.specs.declared.term.Term.{Term}
 use Rattle.buckets.specs.Records.{contents, Sound}
 use Rattle.buckets.proofs.Fields.{length_contents}
 
--- ---- how many slots are not free
-pub count_le : (xs : List Term) (count : ℕ) → Sound xs count → count ≤ length xs
-count_le xs count s = let c = s.counted in omega (arith, length_gather (contents xs), length_contents xs)
-
--- ---- writes
-module _ (xs : List Term) (count : ℕ) (s : Sound xs count) (S v : ℕ) where
+module _ (xs : List Term) (S v : ℕ) where
   abbrev p : Poly
   p = gather (contents xs)
 
@@ -35,8 +30,8 @@ module _ (xs : List Term) (count : ℕ) (s : Sound xs count) (S v : ℕ) where
   pub nothing : Absent (contents xs) S → v ≡ 0 → Wrote (fits (at_most (length xs))) (gather (contents xs)) S v (gather (contents xs)) true
   nothing a z = granted xs refl (sym (ap (put p S) z ∙ put_nothing p S (rising_gather (contents xs)) (at_absent (contents xs) S a)))
 
-  pub refused : Absent (contents xs) S → 0 < v → count ≡ length xs → Wrote (fits (at_most (length xs))) (gather (contents xs)) S v (gather (contents xs)) false
-  refused a some-v f = record {
+  pub refused : {count : ℕ} → Sound xs count → Absent (contents xs) S → 0 < v → count ≡ length xs → Wrote (fits (at_most (length xs))) (gather (contents xs)) S v (gather (contents xs)) false
+  refused s a some-v f = record {
     answer =
         let c = s.counted in
         sym (lt-leb (length (standing (put p S v))) (length xs)

@@ -24,7 +24,7 @@ length_spares xs = length-map xs (λ (x : Term). x.spare)
 
 -- ---- what a record that is read says
 module _ (xs : List Term) (i : ℕ) (d : Term) (l : i < length xs) where
-  pub content_at : get_or (contents xs) i (0, 0) ≡ content_of (get_or xs i d)
+  content_at : get_or (contents xs) i (0, 0) ≡ content_of (get_or xs i d)
   content_at = get_or-map content_of xs i d (0, 0) l
 
   pub set_at_slot : set_at (contents xs) i ≡ number (get_or xs i d).set

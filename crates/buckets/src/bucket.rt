@@ -12,7 +12,7 @@ mod writes;
 #[derive(Drop)]
 pub struct Buckets<'a> {
     slots: &'a mut [Term],
-    // How many slots are not free: counted beside them, since the memory is lent.
+    // How many slots are not free: the spares end by it, and to count them anew would go over every slot.
     count: usize,
     ghost sound: { Sound slots.now count },
 }

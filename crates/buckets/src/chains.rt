@@ -1,4 +1,5 @@
-// Chains of slots inside lent records: what a table does between two states that are sound. Links are indices, for the memory is lent and fixed.
+// Chains of slots inside lent records: what a table does between two states that are sound, so that each step asks for the indices that it uses.
+// Links are indices, for the memory is lent and fixed.
 ghost use Rattle.std.specs.Prelude.{◌≡◌, ◌<◌, ◌≤◌, [], length, IfSome};
 ghost use Rattle.algebra.specs.Gathered.{gather};
 ghost use Rattle.sets.specs.Numbers.{number};
@@ -30,7 +31,8 @@ pub(crate) fn link_at(slots: &[Term], b: usize, before: Option<usize>) -> u32
     }
 }
 
-// Links a place in the chain of the bucket b, at its front or after a slot, to another slot: a `&mut` to the link could not serve `link_at`.
+// Links a place in the chain of the bucket b, at its front or after a slot, to another slot. Not one function with `link_at` that lends the link
+// as `&mut`: it would need a clause about loans, and its callers would gain no line.
 #[tactic(auto, using(crate::proofs::Fields::changes))]
 pub(crate) fn relink(slots: &mut [Term], b: usize, before: Option<usize>, to: u32)
     requires bucket { b < length slots.old }
@@ -69,7 +71,7 @@ pub(crate) fn release(slots: &mut [Term], i: usize, k: usize)
     slots[k].spare = i as u32;
 }
 
-// Frees every slot.
+// Frees every slot. That every table is spread, whatever it has gone through, is part of the promise.
 #[tactic(auto, using(crate::proofs::Fields::changes))]
 pub(crate) fn wipe(slots: &mut [Term])
     requires { length slots.old ≤ 65536 }

@@ -8,7 +8,8 @@ use sets::RankSet;
 // No slot: the end of a chain. No `Option`, since a reader's one test, that a link is below the number of slots, also shows its index in range.
 pub(crate) const NONE: u32 = u32::MAX;
 
-// A slot: a set with its code, free where the code is 0, and beside them what the table keeps for its chains.
+// A slot: a set with its code, free where the code is 0, the number of what does not stand, and beside them what the table keeps for its chains.
+// A record of a bucket table is a set and a code, and no `Slot` of the ordered one. Links are indices into the lent records, for there is no heap.
 #[derive(Clone, Copy)]
 pub struct Term {
     pub(crate) set: RankSet,

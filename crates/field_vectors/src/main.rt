@@ -107,6 +107,7 @@ struct Section<'a> {
 impl Section<'_> {
     // Runs the vectors, and prints each with its expectation and whether it holds.
     fn run(&self, rt: &impl Print, score: &mut Score) -> anyhow::Result<()> {
+        // A refusal is printed on standard output, as every program of ours does, and so not passed on.
         let field = match Field::new(self.degree, self.modulus) {
             Ok(field) => field,
             Err(refusal) => {

@@ -64,7 +64,8 @@ impl Field {
     }
 }
 
-// The test for codes stands in each call: a function over every kind that held it once could not be called from an `impl Kind`.
+// The test for codes stands in each call: as a function it would take a closure and be no shorter, and one over every kind could not be called
+// from an `impl Kind`.
 impl Kind for Field {
     ghost ring = { λ f. ring_of_field f.degree f.modulus };
 

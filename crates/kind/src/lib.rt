@@ -14,7 +14,7 @@ pub mod powers;
 mod repeated;
 
 // A kind of coefficient: a commutative ring whose elements are codes, numbers below 2^32, 0 among them. `ring` is its meaning, and every
-// implementation owes the laws. At a number that is no code, sum, negative and product answer 0.
+// implementation owes the laws. At a number that is no code, sum, negative and product answer 0: a rule of the project (docs/KINDS.md).
 pub trait Kind {
     ghost ring: { Self → Ring };
 

@@ -1,4 +1,5 @@
-// Integer multiples of a code, proved from the laws of a kind alone.
+// Integer multiples of a code, proved from the laws of a kind alone. A kind and a code stay two parameters, since a code is a number that
+// callers keep without its kind.
 ghost use Rattle.std.specs.Prelude.{◌≡◌};
 ghost use Rattle.algebra.specs.Repeated.{many as many_of, multiple as multiple_of, Multiples};
 

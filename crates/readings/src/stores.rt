@@ -35,6 +35,7 @@ mod tests {
     use store::check::check_slots;
     use store::labels::Labels;
 
+    // The set of ranks that a test names: all are ranks, so that none is refused.
     fn set_of(ranks: &[u16]) -> RankSet {
         let mut set = RankSet::empty();
         for rank in ranks {
@@ -70,7 +71,8 @@ mod tests {
         (number, place.lowest())
     }
 
-    // What a store answers to the writes: how many it grants, and then its count, its numbers and its ends.
+    // What a store answers to the writes: how many it grants, and then its count, its numbers and its ends. Call by call, apart from the program
+    // that prints such answers.
     fn check_answers<S: Store, T: Store>(rt: &impl Abort, one: &mut S, other: &mut T) {
         let all = writes();
         assert_eq!(rt; write_all(one, &all), write_all(other, &all));
@@ -116,16 +118,19 @@ mod tests {
         refused(Fault::BadSlots, slots, Layer::Store)
     }
 
-    #[test]
-    fn slots(rt: HostRuntime) {
+    fn check_limits<S: Store>(rt: &impl Abort) {
         for n in [1, 4_096, 65_536] {
-            assert_eq!(rt; check_slots::<Row<'_>>(n).err(), None);
-            assert_eq!(rt; check_slots::<Buckets<'_>>(n).err(), None);
+            assert_eq!(rt; check_slots::<S>(n).err(), None);
         }
         for n in [0, 65_537, usize::MAX] {
-            assert_eq!(rt; check_slots::<Row<'_>>(n).err(), bad_slots(n));
-            assert_eq!(rt; check_slots::<Buckets<'_>>(n).err(), bad_slots(n));
+            assert_eq!(rt; check_slots::<S>(n).err(), bad_slots(n));
         }
+    }
+
+    #[test]
+    fn slots(rt: HostRuntime) {
+        check_limits::<Row<'_>>(&rt);
+        check_limits::<Buckets<'_>>(&rt);
     }
 
     #[test]

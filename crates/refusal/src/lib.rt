@@ -1,7 +1,7 @@
 // Refusals: which of the seventeen listed faults a call found, at which place, in which layer.
 #![tactic(auto)]
 
-ghost use Rattle.std.specs.Prelude.{◌≡◌, Some};
+ghost use Rattle.std.specs.Prelude.{◌≡◌, ◌↔◌, ◌==◌, IsTrue, Some};
 ghost use Rattle.refusal.specs.Numbers.{number_of, word_of, text_of};
 
 use std::error::Error;
@@ -66,7 +66,7 @@ pub struct Refusal {
 }
 
 impl Fault {
-    // The number by which users know the fault; no other fault has it.
+    // The number by which users know the fault; no other fault has it. A method and no `From`, which could not promise that.
     pub fn number(self) -> u8
         ensures value { result ≡ number_of self }
         ensures own { (other : Fault) → number_of other ≡ result → other ≡ self }
@@ -91,7 +91,17 @@ impl Layer {
     }
 }
 
-// A layer is printed as its word.
+impl Refusal {
+    // Whether this is the fault that was found. Faults are the same where their numbers are.
+    pub fn is(&self, fault: Fault) -> bool
+        ensures decides { IsTrue result ↔ (self.now.fault ≡ fault) }
+        ensures numbers { result ≡ (number_of self.now.fault == number_of fault) }
+    {
+        self.fault == fault
+    }
+}
+
+// A layer is printed as its word. By hand, as the line of a refusal is, since a derive promises no text.
 impl fmt::Display for Layer {
     ghost output = { λ l. Some (word_of l) };
 

@@ -1,6 +1,7 @@
 -- The ranks of a set: the lowest, and then those of the set without it.
-use Rattle.std.proofs.Common.{◌≡◌, ℕ, zero, suc, ◌+◌, ◌-◌, ◌<◌, ◌≤◌, Bool, false, not, ◌&&◌, eqb, cond, [], ◌∷◌, sym, refl, ap, ◌∙◌, ap₂, inl, inr, arith}
-use Rattle.std.proofs.lemmas.Bool.{cases_eq, cond-false, eq-eqb, ne_eqb, and_right}
+use Rattle.std.proofs.Common.{◌≡◌, ℕ, zero, suc, ◌+◌, ◌-◌, ◌<◌, ◌≤◌, Bool, false, not, ◌&&◌, cond, [], ◌∷◌, sym, refl, ap, ◌∙◌, ap₂, arith}
+use Rattle.std.proofs.lemmas.Bool.{cond-false, ne_eqb}
+use Rattle.std.proofs.lemmas.Bool.Decides.{nat_tests}
 use Rattle.algebra.specs.Sets.{has, removed, LowestFrom, ranks, ranks_from}
 use Rattle.algebra.proofs.Bitsets.{has_none, has_removed}
 use Rattle.algebra.proofs.RankLists.{ranks_none, ranks_next}
@@ -25,10 +26,7 @@ span_above S k m (suc n) l =
     ap₂ (λ b xs. cond b (m ∷ xs) xs) (has_removed S k m ∙ ap (λ b. not b && has S m) (ne_eqb m k e)) (span_above S k (m + 1) n (omega arith))
 
 taken : (S k j : ℕ) → LowestFrom 0 S k → j < k + 1 → has (removed S k) j ≡ false
-taken S k j f l = has_removed S k j ∙ elim (cases_eq j k) [
-  | inl e ↦ ap (λ b. not b && has S j) (eq-eqb j k e)
-  | inr e ↦ and_right (not (eqb j k)) (has S j) (f.2 j (omega arith) (omega (arith, e)))
-]
+taken S k j f l = has_removed S k j ∙ grind (arith, nat_tests, f.2 j (omega arith))
 
 pub ranks_taken : (S k : ℕ) → LowestFrom 0 S k → k < 512 → ranks S ≡ k ∷ ranks (removed S k)
 unfolding ranks_from

@@ -1,4 +1,4 @@
-// A hash of a set, by its words.
+// A hash of a set, by its words: a method and no `impl Hash`, so that contracts can name it as a function of the set's number.
 ghost use Rattle.std.specs.Prelude.{◌≡◌};
 ghost use Rattle.sets.specs.Hash.{spread as spread_of, mix as mixed, hash as hash_of};
 ghost use Rattle.sets.specs.Numbers.{number};

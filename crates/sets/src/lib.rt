@@ -8,7 +8,8 @@ pub mod members;
 pub mod order;
 pub mod ranks;
 
-const RANKS: u16 = 512;
+// Every rank is below this.
+pub const RANKS: u16 = 512;
 
 const WORDS: usize = 8;
 

@@ -3,14 +3,14 @@ ghost use Rattle.std.specs.Prelude.{◌≡◌, bit_or};
 ghost use Rattle.algebra.specs.Sets.{has, within, inserted, removed, Membership};
 ghost use Rattle.sets.specs.Numbers.{number};
 
-use super::{RANKS, RankSet};
+use super::{RANKS, RankSet, WORDS};
 use std::array;
 
 impl RankSet {
     pub fn empty() -> RankSet
         ensures { number result ≡ 0 }
     {
-        RankSet { words: [0; 8] }
+        RankSet { words: [0; WORDS] }
     }
 
     // No set has a rank of 512 or more. What `has` says of the other calls is part of the promise.

@@ -12,7 +12,7 @@ use super::{RankSet, WORDS};
 use std::cmp::Ordering;
 
 impl RankSet {
-    // What `cmp` answers. The second clause says in ranks what the first says in numbers.
+    // What `cmp` answers. The second clause says in ranks what the first says in numbers. A match, since `map_or` would join both cases into one goal.
     pub fn compare(&self, other: &RankSet) -> Ordering
         ensures numbers { MatchOrdering result (number self.now < number other.now) (number self.now ≡ number other.now) (number other.now < number self.now) }
         ensures ranks { MatchOrdering result (Higher (number other.now) (number self.now)) (number self.now ≡ number other.now) (Higher (number self.now) (number other.now)) }
@@ -23,7 +23,7 @@ impl RankSet {
         }
     }
 
-    // The highest word in which two sets differ.
+    // The highest word in which two sets differ. To compare the reversed iterators is shorter, and takes four times as long.
     fn differing_word(&self, other: &RankSet) -> Option<usize>
         ensures same { IfNone result (SameFrom 0 self.now.words other.now.words) }
         ensures in_range { IfSome result (λ i. i < 8) }

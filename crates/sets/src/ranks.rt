@@ -8,7 +8,7 @@ ghost use Rattle.std.specs.Iterator.{YieldsFirst, item_count};
 use super::RankSet;
 
 impl RankSet {
-    // None for the empty set, as in `highest`.
+    // None for the empty set, as in `highest`, which differs in both methods that it calls.
     pub fn lowest(&self) -> Option<u16>
         ensures { MatchOption result (number self.now ≡ 0) (λ k. LowestFrom 0 (number self.now) k) }
     {

@@ -31,10 +31,7 @@ impl Claims {
     pub fn terms(&self, n: usize) -> &[Term]
         ensures { result.now ≡ slice_index_or (claims_of self.now) n [] }
     {
-        match self.table.get(n) {
-            Some(claim) => claim.as_slice(),
-            None => &[],
-        }
+        self.table.get(n).map_or(&[], ArrayVec::as_slice)
     }
 
     // One claim more, without terms, or, where there are eight, a refusal that changes nothing.
@@ -52,7 +49,8 @@ impl Claims {
         self.table.last().map_or(0, ArrayVec::len)
     }
 
-    // One term more in the claim opened last, or, where it has 64, a refusal that changes nothing. Where there is no claim, nothing changes.
+    // One term more in the claim opened last, or, where it has 64, a refusal that changes nothing. Where there is no claim, nothing changes. A match,
+    // for what is changed is lent, which `map_or` would make no shorter.
     pub fn add_term(&mut self, term: Term) -> Result<(), Full>
         ensures after { claims_of self.new ≡ (if is_ok result then on_latest (claims_of self.old) term else claims_of self.old) }
         ensures answer { is_ok result ≡ nat_lt (length (latest_of (claims_of self.old))) 64 }

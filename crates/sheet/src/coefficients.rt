@@ -27,6 +27,7 @@ impl Coefficients {
     }
 }
 
+// Each call hands on to the kind that it is: a `dyn Kind` may not be handed out by `named`, and a macro would be no plainer.
 impl Kind for Coefficients {
     ghost use Rattle.sheet.specs.Kinds.{kind_of, ring_of};
     ghost use Rattle.sheet.specs.KindLaws.{lawful_kind};

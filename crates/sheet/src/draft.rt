@@ -8,7 +8,7 @@ use refusal::Fault;
 use store::labels::Labels;
 use store::slot::Slot;
 
-// The labels are those of the inputs, each with its place counted from 1.
+// The labels are those of the inputs, each with its place counted from 1, since 0 is the number of a label that does not stand.
 #[derive(Drop)]
 pub struct Draft<'a> {
     sheet: OpenSheet,

@@ -33,7 +33,7 @@ pub struct Declared {
     pub gate: Gate,
 }
 
-// What a table of gates holds where none stands.
+// What a table of gates holds where none stands. By hand, since a derive takes only a case without fields.
 impl Default for Gate {
     ghost use Rattle.std.specs.Prelude.{◌≡◌, false};
     ghost use Rattle.sheet.specs.declared.gate.Gate.TheVariants.{Constant};

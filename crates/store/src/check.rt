@@ -7,7 +7,7 @@ use crate::Store;
 use refusal::{Fault, Layer, Refusal};
 
 // Whether a store takes so many slots: one at least, and no more than its most. It looks at their number alone: that slots are checked before
-// a store is made, and that the making then cannot fail, is a rule of the project.
+// a store is made, and that the making then cannot fail, is a rule of the project (docs/STORES.md).
 pub fn check_slots<S: Store>(slots: usize) -> Result<(), Refusal>
     ensures { MatchResult result (λ _. takes S.most slots ≡ true) (λ e. (takes S.most slots ≡ false) × (e ≡ bad_slots slots)) }
 {

@@ -46,7 +46,7 @@ pub trait Store {
         ensures { result ≡ at (poly self.now) (number «set».now) };
 
     // The highest standing set goes into a place that the caller lends, its number is the answer; with none, the place stays as it was. That
-    // sets are handed out so, and not as an `Option` of a set, is a rule of the project.
+    // sets are handed out so, and not as an `Option` of a set, is a rule of the project (docs/STORES.md).
     fn highest(&self, place: &mut RankSet) -> Option<u32>
         ensures { Handed number (highest_of (poly self.now)) result place.old place.new };
 

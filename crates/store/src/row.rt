@@ -8,7 +8,7 @@ use crate::slot::{Full, Slot};
 use crate::table::Table;
 use sets::RankSet;
 
-// The ordered table with sets as its keys.
+// The ordered table with sets as its keys: a struct around it and no alias, since a store takes at most 65,536 slots, a table any number.
 #[derive(Drop)]
 pub struct Row<'a> {
     table: Table<'a, RankSet>,

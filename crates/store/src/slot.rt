@@ -15,6 +15,7 @@ pub struct Slot<K> {
 #[derive(Clone, Copy, PartialEq, Eq, Debug)]
 pub struct Full;
 
+// By hand, since a derive promises no text.
 impl fmt::Display for Full {
     ghost output = { λ _. Some (codes "no room for one more") };
 

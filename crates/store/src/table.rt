@@ -61,7 +61,7 @@ impl<K: Key> Table<'_, K> {
         self.standing().binary_search_by(|slot| slot.key.cmp(key))
     }
 
-    // The key's number, or 0 where it does not stand.
+    // The key's number, or 0, the number of what does not stand. A match, since `map_or` would join both cases into one goal.
     pub fn read(&self, key: &K) -> u32
         ensures { result ≡ at (contents self.now) (K.number key.now) }
     {
@@ -71,7 +71,8 @@ impl<K: Key> Table<'_, K> {
         }
     }
 
-    // The lowest key goes into a place that the caller lends, and its number is the answer; with none, the place stays as it was.
+    // The lowest key goes into a place that the caller lends, as sets do from a store, and its number is the answer; with none, the place stays as it
+    // was.
     pub fn lowest(&self, place: &mut K) -> Option<u32>
         ensures { Handed K.number (lowest_of (contents self.now)) result place.old place.new }
     {
@@ -85,7 +86,7 @@ impl<K: Key> Table<'_, K> {
         hand_out(self.standing().last(), place)
     }
 
-    // Takes every key out.
+    // Takes every key out. Each call that changes a table says that its room stays: no invariant speaks of two states.
     pub fn clear(&mut self)
         ensures empty { contents self.new ≡ [] }
         ensures room { room self.new ≡ room self.old }

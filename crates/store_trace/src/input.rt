@@ -5,14 +5,11 @@ ghost use Rattle.sets.specs.Numbers.{number};
 ghost use Rattle.store_trace.specs.Numerals.{ReadsBelow, AreRanks, set_of};
 ghost use Rattle.store_trace.specs.Said.{SaysWrite, only_number, Took};
 
-use sets::RankSet;
+use sets::{RANKS, RankSet};
 use std::alloc::{AllocFailed, Global};
 use std::io::ErrorKind;
 use std::{fmt, io};
 use store::slot::Slot;
-
-// Ranks are below this.
-const RANKS: u16 = 512;
 
 // A line that is not what has to stand there, by its number, counted from 1.
 #[derive(Clone, Copy, PartialEq, Eq, Debug)]
@@ -48,6 +45,13 @@ enum LineError {
 
 // A line that is no text says nothing.
 impl From<io::Error> for LineError {
+    ghost use Rattle.std.specs.Prelude.{◌≡◌, ◌↔◌};
+    ghost use Rattle.std.specs.IoError.{error_kind};
+    ghost use Rattle.std.specs.declared.io.ErrorKind.TheVariants.{InvalidData};
+    ghost use Rattle.store_trace.specs.declared.input.LineError.TheVariants.{SaysNothing};
+
+    ghost from_gives = { λ error e. (e ≡ SaysNothing) ↔ (error_kind error ≡ InvalidData) };
+
     fn from(error: io::Error) -> LineError {
         match error.kind() {
             ErrorKind::InvalidData => LineError::SaysNothing,
@@ -130,12 +134,13 @@ fn slots_of(numbers: &[u32]) -> Option<usize>
 struct Reading {
     slots: Option<usize>,
     writes: Vec<Slot<RankSet>>,
-    // The line that comes next.
+    // The line that comes next: counted here, since an input without a number of slots is named by the line after its last.
     line: u64,
 }
 
 impl Reading {
-    // Takes in the numbers of a line: first the number of slots, and then writes.
+    // Takes in the numbers of a line: first the number of slots, and then writes. Which of them is seen at each line, since any number of comments
+    // and blank lines may stand before the first.
     fn take(&mut self, numbers: &[u32]) -> Result<(), LineError>
         ensures ok { OnOk result (Took numbers.now self.old.slots self.new.slots self.old.writes.items self.new.writes.items true) }
         ensures nothing { IsErrOf result LineError.SaysNothing → Took numbers.now self.old.slots self.new.slots self.old.writes.items self.new.writes.items false }
@@ -187,7 +192,7 @@ impl Reading {
     }
 }
 
-// Reads a trace from standard input, up to its first line that is no write.
+// Reads a trace from standard input, up to its first line that is no write. An input that cannot be read is an error; a malformed line is an answer.
 pub(crate) fn read_trace(rt: &(impl Input + AllocGlobal)) -> io::Result<Result<Trace, Malformed>> {
     let mut reading = Reading {
         slots: None,

@@ -36,13 +36,11 @@ fn run_writes<R: Store, B: Store>(
     ensures buckets { OnOk result (B.Store.poly buckets.new ≡ fold (after (B.Store.room buckets.old)) (B.Store.poly buckets.old) writes.now) }
 {
     for write in writes {
-        match step_both(row, buckets, write) {
-            Some(answer) => println!(rt; "write {}: {answer}", Shown(write))?,
-            None => {
-                println!(rt; "write {}: row and buckets disagree", Shown(write))?;
-                return Err(anyhow!("row and buckets disagree"));
-            }
-        }
+        let Some(answer) = step_both(row, buckets, write) else {
+            println!(rt; "write {}: row and buckets disagree", Shown(write))?;
+            return Err(anyhow!("row and buckets disagree"));
+        };
+        println!(rt; "write {}: {answer}", Shown(write))?;
     }
     Ok(())
 }
@@ -60,7 +58,7 @@ fn print_closing<S: Store>(
     Ok(())
 }
 
-// Prints which line is malformed, and fails.
+// Prints which line is malformed, and fails. The error has its own text; the line is printed already.
 fn report(rt: &impl Print, malformed: Malformed) -> anyhow::Result<()> {
     println!(rt; "{malformed}")?;
     Err(match malformed {
@@ -80,6 +78,7 @@ fn check_both(slots: usize) -> Result<(), Refusal>
 // Makes the two stores, and runs a trace over them.
 fn run(rt: &(impl Print + AllocGlobal), trace: &Trace) -> anyhow::Result<()> {
     let slots = trace.slots;
+    // A refusal is an answer of this program, which ends well after it, and so not passed on.
     if let Err(refusal) = check_both(slots) {
         println!(rt; "{refusal}")?;
         return Ok(());

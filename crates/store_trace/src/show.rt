@@ -10,10 +10,10 @@ struct Ranks<'a>(&'a RankSet);
 
 impl fmt::Display for Ranks<'_> {
     fn fmt<W: fmt::Write>(&self, f: &mut fmt::Formatter<W>) -> fmt::Result {
-        match self.0.lowest() {
-            None => f.write_str("-"),
-            Some(_) => f.write_joined(self.0.ranks(), " "),
+        if self.0.lowest().is_none() {
+            return f.write_str("-");
         }
+        f.write_joined(self.0.ranks(), " ")
     }
 }
 

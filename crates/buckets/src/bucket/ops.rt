@@ -48,6 +48,7 @@ impl Store for Buckets<'_> {
         self.count = 0;
     }
 
+    // 0 is the number of what does not stand. A match, since `map_or` would join both cases into one goal.
     fn read(&self, set: &RankSet) -> u32 {
         match self.slot_of(set) {
             Some(i) => self.slots[i].code,
@@ -55,7 +56,7 @@ impl Store for Buckets<'_> {
         }
     }
 
-    // The two ends differ in one method of the iterator, and the place is the caller's.
+    // The two ends differ in one method of the iterator, so that a function over both would take a closure for three lines.
     fn highest(&self, place: &mut RankSet) -> Option<u32> {
         let highest = self
             .slots

@@ -1,4 +1,5 @@
-// Where in a bucket table a set is, or goes. A chain is followed by its links, from slot to slot.
+// Where in a bucket table a set is, or goes. A chain is followed by its links, from slot to slot of the lent memory, with the test that ends it in the
+// loop's head; by `successors` that test would stand in a closure beside it.
 ghost use Rattle.std.specs.Prelude.{◌≡◌, ◌-◌, ◌<◌, length, IfSome, MatchOption, slice_index};
 ghost use Rattle.algebra.specs.Gathered.{Absent};
 ghost use Rattle.sets.specs.Numbers.{number};

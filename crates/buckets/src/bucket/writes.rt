@@ -1,4 +1,5 @@
-// How a set gets a slot of a bucket table, keeps it with another number, and loses it.
+// How a set gets a slot of a bucket table, keeps it with another number, and loses it. Each says that the places stay: no invariant speaks of
+// two states.
 ghost use Rattle.std.specs.Prelude.{◌≡◌, ◌<◌, is_ok};
 ghost use Rattle.algebra.specs.Gathered.{set_at, Absent};
 ghost use Rattle.algebra.specs.Poly.{put};
@@ -38,7 +39,6 @@ impl Buckets<'_> {
 
     // Gives the set of a slot another number, not 0.
     pub(super) fn replace(&mut self, i: usize, code: u32)
-        requires slot { i < places self.old }
         requires taken { Taken (held self.old) i }
         requires some { 0 < code }
         ensures means { bucket_poly self.new ≡ put (bucket_poly self.old) (set_at (held self.old) i) code }
@@ -49,7 +49,6 @@ impl Buckets<'_> {
 
     // Takes a slot out of its chain and frees it.
     pub(super) fn remove(&mut self, i: usize)
-        requires slot { i < places self.old }
         requires taken { Taken (held self.old) i }
         ensures means { bucket_poly self.new ≡ put (bucket_poly self.old) (set_at (held self.old) i) 0 }
         ensures long { places self.new ≡ places self.old }

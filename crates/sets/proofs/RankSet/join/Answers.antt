@@ -4,9 +4,6 @@ use Rattle.std.proofs.lemmas.Grind.{common_steps}
 use Rattle.sets.proofs.Worded.{value_or}
 use Rattle.sets.proofs.RankSet.join.Goals as goal
 
-pub invariant_of-self : goal.invariant_of-self
-invariant_of-self c = record { sized = (c.from_fn-self.ensures.items.long, λ k. grind (arith, common_steps)) }
-
 pub returns : goal.returns
 returns c =
     let s = c.args.self.now in

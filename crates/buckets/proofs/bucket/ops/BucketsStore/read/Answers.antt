@@ -4,7 +4,7 @@ use Rattle.buckets.proofs.Tables.{reads}
 use Rattle.buckets.proofs.bucket.ops.BucketsStore.read.Goals as goal
 
 pub returns-in-Some : goal.returns-in-Some
-returns-in-Some c = sym (reads _ _ c.args.self.now.sound _ _ c.in-Some.ensures.found _)
+returns-in-Some c = sym (reads _ c.args.self.now.sound c.in-Some.ensures.found _)
 
 pub returns-in-None : goal.returns-in-None
 returns-in-None c = sym (at_absent _ _ c.in-None.ensures.found)
