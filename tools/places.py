@@ -13,6 +13,13 @@ import sys
 
 COMMENT = re.compile(r"^\s*//")
 WORD = re.compile(r"[A-Za-z_]\w*|\d[\w.]*|[^\s\w]")
+OPTION_SHAPED = [r"\benum \w+", r"^\s*(pub(\(crate\))? )?\w+: bool,", r"(Result|Option)<bool", r"\bplace: &mut", r"const \w+: u\d+ = u\d+::MAX",
+                 r"\bErr\(_\w*\) =>|Ok\(\w+\) => Some\(", r"fn \w+\((family|\w*kind): u8|fn \w+\(self\) -> u8"]
+BY_HAND = [r"impl.* (PartialEq|Eq|PartialOrd|Ord|Clone|Copy|Debug|Default|Hash)\b.* for ", r"fn (compare|agrees|same_\w+|is_further|differs?)\b",
+           r"fn (number|word|named|set_of|from_\w+|to_\w+|into_\w+)\b|fn write_(?!all|in_order|of)\w+"]
+BUFFERS = [r"^\s*(pub(\(crate\))? )?(len|count|room|n): (usize|ClaimCount),", r"^\s*(pub(\(crate\))? )?(next|first|spare|index|parent|left|right): u\d+,",
+           r"\(high - low\) / 2|\bfn (insert_at|remove_at)\b"]
+SWITCHES = [r"fn \w+.*\b(end|which|step|mode): \w+", r"match (end|which|step|mode) ", r"\[fn\(|: fn\("]
 KEYWORDS = set("as break const continue else enum false fn for if impl in let loop match mod mut pub ref return self Self struct trait true"
                " type use where while Ok Err Some None usize u8 u16 u32 u64 bool".split())
 
@@ -28,9 +35,9 @@ def lines():
                 yield path, number, line.rstrip("\n")
 
 
-def matching(pattern):
-    find = re.compile(pattern)
-    return [f"{path}:{number}: {line.strip()}" for path, number, line in lines() if find.search(line)]
+def matching(*patterns):
+    """The lines that a pattern finds, by pattern."""
+    return [f"{path}:{number}: {line.strip()}" for pattern in patterns for path, number, line in lines() if re.search(pattern, line)]
 
 
 def functions():
@@ -64,9 +71,7 @@ def shape(body):
 
 
 def option_shaped():
-    return (matching(r"\benum \w+") + matching(r"^\s*(pub(\(crate\))? )?\w+: bool,") + matching(r"(Result|Option)<bool")
-            + matching(r"\bplace: &mut") + matching(r"const \w+: u\d+ = u\d+::MAX") + matching(r"\bErr\(_\w*\) =>|Ok\(\w+\) => Some\(")
-            + matching(r"fn \w+\((family|\w*kind): u8|fn \w+\(self\) -> u8"))
+    return matching(*OPTION_SHAPED)
 
 
 def twins():
@@ -105,9 +110,7 @@ def index_loops():
 
 
 def by_hand():
-    return (matching(r"impl.* (PartialEq|Eq|PartialOrd|Ord|Clone|Copy|Debug|Default|Hash)\b.* for ")
-            + matching(r"fn (compare|agrees|same_\w+|is_further|differs?)\b")
-            + matching(r"fn (number|word|named|set_of|from_\w+|to_\w+|into_\w+)\b|fn write_(?!all|in_order|of)\w+"))
+    return matching(*BY_HAND)
 
 
 def repeated_facts():
@@ -132,13 +135,11 @@ def repeated_facts():
 
 
 def buffers():
-    return (matching(r"^\s*(pub(\(crate\))? )?(len|count|room|n): (usize|ClaimCount),")
-            + matching(r"^\s*(pub(\(crate\))? )?(next|first|spare|index|parent|left|right): u\d+,")
-            + matching(r"\(high - low\) / 2|\bfn (insert_at|remove_at)\b"))
+    return matching(*BUFFERS)
 
 
 def switches():
-    return matching(r"fn \w+.*\b(end|which|step|mode): \w+") + matching(r"match (end|which|step|mode) ") + matching(r"\[fn\(|: fn\(")
+    return matching(*SWITCHES)
 
 
 def proofs():

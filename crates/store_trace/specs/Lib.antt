@@ -1,3 +1,4 @@
 pub mod Told
 pub mod Numerals
 pub mod Said
+pub mod Lines

@@ -19,6 +19,11 @@ pub enum Malformed {
 }
 
 impl fmt::Display for Malformed {
+    ghost use Rattle.std.specs.Prelude.{Some};
+    ghost use Rattle.store_trace.specs.Lines.{text_of};
+
+    ghost output = { λ m. Some (text_of m) };
+
     fn fmt<W: fmt::Write>(&self, f: &mut fmt::Formatter<W>) -> fmt::Result {
         match self {
             Malformed::NoSlots { line } => write!(f, "line {line} is no number of slots"),
