@@ -4,17 +4,39 @@ use native.Mathlib.Nat.{div-eq_of_lt-le}
 use lib.Arith.{bin_ind}
 use Rattle.std.specs.Int.{bit_at}
 use Rattle.std.proofs.lemmas.Nat.Bits.{and_pow, bit_at-lt, bit_at-suc, bit_at-zero, bit_at_and, bit_at_or, bit_at_xor, bit_at-pow_same, bit_at-pow_other, bit_at_above, same_from_bits}
-use lib.Bits.{bit_and, bit_or, bit_xor, xor_add_and}
-use Rattle.std.proofs.lemmas.Bool.{eqb-true, eq-eqb, ne_eqb, cases_lt, cases_order, cases_Bool, both_ways, lt-ltb}
-use Rattle.std.proofs.lemmas.Bool.Decides.{nat_tests}
-use Rattle.algebra.specs.Sets.{has, within, inserted, removed, Highest, Higher, Membership}
+use lib.Bits.{bit_and, bit_or, bit_xor, xor_add_and, and_le_r}
+use Rattle.std.proofs.lemmas.Bool.{eqb-true, eq-eqb, ne_eqb, cases_lt, cases_eq, cases_order, cases_Bool, both_ways, and_from, and_parts, lt-ltb}
+use Rattle.std.proofs.lemmas.Bool.Decides.{nat_tests, same_from_decides}
+use Rattle.algebra.specs.Sets.{has, within, inserted, removed, NoneFrom, Highest, HigherAt, Higher, Membership}
 
 -- ---- S lies within A: each of its ranks is in A
-within_bits : (S A : ℕ) → within S A ≡ true → (r : ℕ) → bit_at S r ≤ bit_at A r
+pub within_bits : (S A : ℕ) → within S A ≡ true → (r : ℕ) → bit_at S r ≤ bit_at A r
 within_bits S A e r = omega (arith, bit_at_and S A r, ap (λ x. bit_at x r) (eqb-true (bit_and S A) S e))
 
-bits_within : (S A : ℕ) → ((r : ℕ) → bit_at S r ≤ bit_at A r) → within S A ≡ true
+pub bits_within : (S A : ℕ) → ((r : ℕ) → bit_at S r ≤ bit_at A r) → within S A ≡ true
 bits_within S A h = eq-eqb (bit_and S A) S (same_from_bits (bit_and S A) S (λ r. omega (arith, bit_at_and S A r, h r)))
+
+-- a set within A is at most A
+pub within_le : (S A : ℕ) → within S A ≡ true → S ≤ A
+within_le S A e = omega (arith, eqb-true (bit_and S A) S e, and_le_r S A)
+
+pub within_or : (S R A : ℕ) → within (bit_or S R) A ≡ (within S A && within R A)
+within_or S R A =
+    same_from_decides (within (bit_or S R) A) (within S A && within R A) (within_bits (bit_or S R) A, bits_within (bit_or S R) A) (
+      λ e r. let h = and_parts _ _ e in omega (arith, bit_at_or S R r, within_bits S A h.0 r, within_bits R A h.1 r),
+      λ h. and_from _ _ (bits_within S A (λ r. omega (arith, bit_at_or S R r, h r))) (bits_within R A (λ r. omega (arith, bit_at_or S R r, h r))),
+    )
+
+-- one rank
+pub within_one : (n A : ℕ) → within (2 ^ n) A ≡ has A n
+within_one n A =
+    same_from_decides (within (2 ^ n) A) (has A n) (within_bits (2 ^ n) A, bits_within (2 ^ n) A) (
+      λ e r. elim (cases_eq r n) [
+        | inl f ↦ rw f (omega (arith, bit_at-pow_same n, eqb-true (bit_at A n) 1 e))
+        | inr f ↦ omega (arith, bit_at-pow_other n r f)
+      ],
+      λ h. eq-eqb (bit_at A n) 1 (omega (arith, bit_at-pow_same n, bit_at-lt A n, h n)),
+    )
 
 -- ---- sets below the rank n
 -- a number below 2^(n + 1) has the bit n where it is not below 2^n
@@ -34,7 +56,7 @@ has_small S n r h e = grind (arith, nat_tests, e, bit_at_above S n r h)
 pub has_past : (S n r : ℕ) → S < 2 ^ n → n ≤ r → has S r ≡ false
 has_past S n r h l = grind (arith, nat_tests, bit_at_above S n r h l)
 
-has_half : (S r : ℕ) → has (S / 2) r ≡ has S (suc r)
+pub has_half : (S r : ℕ) → has (S / 2) r ≡ has S (suc r)
 has_half S r = ap (λ x. eqb x 1) (sym (bit_at-suc S r))
 
 -- sets with the same ranks are the same
@@ -82,6 +104,20 @@ higher_lt A B h =
       | inr (inl l) ↦ absurd (not_both A B h (lt_higher B A l))
       | inr (inr l) ↦ l
     ]
+
+-- ---- no ranks from one on
+pub none_lt : (S n : ℕ) → NoneFrom n S → S < 2 ^ n
+none_lt S n f = higher_lt (2 ^ n) S (n, here)
+  where
+    here : HigherAt n (2 ^ n) S
+    here = (
+      eq-eqb (bit_at (2 ^ n) n) 1 (bit_at-pow_same n),
+      f n (omega arith),
+      λ k l. ap (λ x. eqb x 1) (bit_at-pow_other n k (λ e. omega arith)) ∙ sym (f k (omega arith)),
+    )
+
+pub highest_top : (S r : ℕ) → Highest S r → (2 ^ r ≤ S) × (S < 2 ^ suc r)
+highest_top S r h = (bit_part S r (eqb-true (bit_at S r) 1 h.0), none_lt S (suc r) (λ k l. h.1 k (omega arith)))
 
 -- ---- which ranks the operations have
 pub has_or : (A B k : ℕ) → has (bit_or A B) k ≡ (has A k || has B k)

@@ -99,10 +99,10 @@ module _ (ts : Slots) (i : ℕ) (y : ℕ × ℕ) (v : Vacant ts y.0 i) where
   long : length us ≡ length ts
   long = length-set ts i y
 
-  slot_same : (j : ℕ) → j ≡ i → get_or us j (0, 0) ≡ y
+  pub slot_same : (j : ℕ) → j ≡ i → get_or us j (0, 0) ≡ y
   slot_same j e = ap (λ k. get_or us k (0, 0)) e ∙ get_or-set_same ts i y (0, 0) v.within
 
-  slot_other : (j : ℕ) → (j ≡ i → ⊥) → get_or us j (0, 0) ≡ get_or ts j (0, 0)
+  pub slot_other : (j : ℕ) → (j ≡ i → ⊥) → get_or us j (0, 0) ≡ get_or ts j (0, 0)
   slot_other j e = let ne : j ≢ i = e in get_or-set_other ts i j y (0, 0) ne
 
   number_other : (j : ℕ) → (j ≡ i → ⊥) → 0 < number_at us j → 0 < number_at ts j

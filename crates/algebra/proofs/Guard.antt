@@ -26,13 +26,13 @@ module _ (r : Ring) (l : Laws r) where
 
   -- two operations in a row
   module _ (f g : ℕ → ℕ → ℕ) (g-code : (a b : ℕ) → Code r a → Code r b → Code r (g a b)) where
-    row_l : (a b c : ℕ) → Code r a → Code r b → Code r c → on_codes r.code f (on_codes r.code g a b) c ≡ f (g a b) c
+    pub row_l : (a b c : ℕ) → Code r a → Code r b → Code r c → on_codes r.code f (on_codes r.code g a b) c ≡ f (g a b) c
     row_l a b c s t u = ap (λ (x : ℕ). on_codes r.code f x c) (inside r.code g a b s t) ∙ inside r.code f (g a b) c (g-code a b s t) u
 
-    row_r : (a b c : ℕ) → Code r a → Code r b → Code r c → on_codes r.code f a (on_codes r.code g b c) ≡ f a (g b c)
+    pub row_r : (a b c : ℕ) → Code r a → Code r b → Code r c → on_codes r.code f a (on_codes r.code g b c) ≡ f a (g b c)
     row_r a b c s t u = ap (on_codes r.code f a) (inside r.code g b c t u) ∙ inside r.code f a (g b c) s (g-code b c t u)
 
-  guarded_laws : Laws (guarded r)
+  pub guarded_laws : Laws (guarded r)
   guarded_laws = record {
     code_below = l.code_below;
     zero_code = l.zero_code;

@@ -45,11 +45,11 @@ at_put (t ∷ p) S v h R =
     (λ l. rw (at_put p S v h.2 R) (grind (arith, nat_tests)))
 
 -- ---- writing keeps the order
-above_front : (p : Poly) (S v R : ℕ) → R < S → Above R p → Above R (front S v p)
+pub above_front : (p : Poly) (S v R : ℕ) → R < S → Above R p → Above R (front S v p)
 above_front p S zero R l h = h
 above_front p S (suc v) R l h = (l, h)
 
-above_put : (p : Poly) (S v R : ℕ) → R < S → Above R p → Above R (put p S v)
+pub above_put : (p : Poly) (S v R : ℕ) → R < S → Above R p → Above R (put p S v)
 above_put [] S v R l h = above_front [] S v R l tt
 above_put (t ∷ p) S v R l h =
     put_cases (Above R) t p S v (λ _. above_front p S v R l h.1) (λ _. above_front (t ∷ p) S v R l h) (λ _. (h.0, above_put p S v R l h.1))

@@ -60,7 +60,7 @@ times_double_l a =
     ∙ xor_double (n % 2 * a) (a ⊗ (n / 2) * 2)
     ∙ ap (λ (x : ℕ). x * 2) (sym (times_step a n)))
 
-times_double_r : (a b : ℕ) → a ⊗ (b * 2) ≡ a ⊗ b * 2
+pub times_double_r : (a b : ℕ) → a ⊗ (b * 2) ≡ a ⊗ b * 2
 times_double_r a b =
     times_step a (b * 2)
     ∙ ap₂ (λ (x y : ℕ). bit_xor (x * a) (a ⊗ y * 2)) (mul-mod_left b 2) (mul-div_cancel b (omega arith))

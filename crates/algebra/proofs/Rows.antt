@@ -8,14 +8,19 @@ use Rattle.algebra.specs.Rows.{set_at, number_at, Sorted, Nonzero, Bounded, Stan
 use Rattle.algebra.proofs.Polys.{put_below, put_here, put_above, put_cases}
 
 -- ---- by places and by form
-above_from : (p : Poly) (S : ℕ) → ((k : ℕ) → k < length p → S < set_at p k) → Above S p
+pub above_at : (p : Poly) (S : ℕ) → Above S p → (k : ℕ) → k < length p → S < set_at p k
+above_at [] S h k l = absurd (omega arith)
+above_at (t ∷ p) S h zero l = h.0
+above_at (t ∷ p) S h (suc k) l = above_at p S h.1 k (omega arith)
+
+pub above_from : (p : Poly) (S : ℕ) → ((k : ℕ) → k < length p → S < set_at p k) → Above S p
 above_from [] S h = tt
 above_from (t ∷ p) S h = (h 0 (omega arith), above_from p S (λ k l. h (suc k) (omega arith)))
 
-sorted_tail : (t : ℕ × ℕ) (p : Poly) → Sorted (t ∷ p) → Sorted p
+pub sorted_tail : (t : ℕ × ℕ) (p : Poly) → Sorted (t ∷ p) → Sorted p
 sorted_tail t p h i l = h (suc i) (omega arith)
 
-sorted_first : (t : ℕ × ℕ) (p : Poly) → Sorted (t ∷ p) → (k : ℕ) → k < length p → t.0 < set_at p k
+pub sorted_first : (t : ℕ × ℕ) (p : Poly) → Sorted (t ∷ p) → (k : ℕ) → k < length p → t.0 < set_at p k
 sorted_first t p h zero l = h 0 (omega arith)
 sorted_first t p h (suc k) l = omega (arith, sorted_first t p h k (omega arith), h (suc k) (omega arith))
 

@@ -24,8 +24,10 @@ module _ (xs : List Term) (S v : ℕ) where
     after = m;
   }
 
-  pub removed : (ys : List Term) → v ≡ 0 → length ys ≡ length xs → gather (contents ys) ≡ put (gather (contents xs)) S 0 → Wrote (fits (at_most (length xs))) (gather (contents xs)) S v (gather (contents ys)) true
-  removed ys z l m = granted ys l (m ∙ ap (put p S) (sym z))
+  -- written under other names of the set and of the number
+  pub granted_as : {T w : ℕ} (ys : List Term) → length ys ≡ length xs → T ≡ S → gather (contents ys) ≡ put (gather (contents xs)) T w → w ≡ v
+      → Wrote (fits (at_most (length xs))) (gather (contents xs)) S v (gather (contents ys)) true
+  granted_as {w} ys l t m e = granted ys l (m ∙ ap (λ T. put p T w) t ∙ ap (put p S) e)
 
   pub nothing : Absent (contents xs) S → v ≡ 0 → Wrote (fits (at_most (length xs))) (gather (contents xs)) S v (gather (contents xs)) true
   nothing a z = granted xs refl (sym (ap (put p S) z ∙ put_nothing p S (rising_gather (contents xs)) (at_absent (contents xs) S a)))

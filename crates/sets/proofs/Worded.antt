@@ -1,22 +1,22 @@
 -- Words of 64 bits as one number: what one word, or all words together, say of the number.
-use Rattle.std.proofs.Common.{◌≡◌, ℕ, zero, suc, ◌+◌, ◌-◌, ◌*◌, ◌/◌, ◌%◌, ◌^◌, ◌<◌, ◌≤◌, Bool, false, nat_eq, not, ◌&&◌, ◌||◌, eqb, List, [], ◌∷◌, length, get_or, set, sym, refl, ap, ◌∙◌, subst, ap₂, inl, inr, arith, pow_pos, pow-add}
-use lib.Bits.{bit_or, bit_and, and_block, and_lt, and_le_l, or_lt}
-use Rattle.std.proofs.lemmas.List.{get_or-set_other, get_or_past}
+use Rattle.std.proofs.Common.{◌≡◌, ℕ, zero, suc, ◌+◌, ◌-◌, ◌*◌, ◌/◌, ◌%◌, ◌^◌, ◌<◌, ◌≤◌, Bool, false, nat_eq, not, ◌&&◌, ◌||◌, eqb, List, [], ◌∷◌, length, get_or, set, fold, sym, refl, ap, ◌∙◌, subst, ap₂, inl, inr, arith, pow_pos, pow-add, shr-shr}
+use lib.Bits.{bit_or, bit_and, and_block, and_lt, and_le_l, and_comm, or_lt, or_add_and}
+use Rattle.std.proofs.lemmas.List.{get_or-set_other, get_or_past, ext_get_or}
 use Rattle.std.proofs.lemmas.Grind.{get_or-set_at, common_steps}
 use Rattle.std.proofs.lemmas.Bool.{cases_lt, cases_eq, eq-eqb, ne_eqb}
-use Rattle.std.proofs.lemmas.Nat.{one_shl}
+use Rattle.std.proofs.lemmas.Nat.{one_shl, and-not, le_or_l, le_or_r}
 use Rattle.std.specs.Int.{bit_at, w64, trailing_zeros}
 use Rattle.std.proofs.lemmas.Nat.Bits.{and_pow, bit_at-zero, bit_at_cat_low, bit_at_cat_high, bit_at_set_same, bit_at_set_other, bit_at_clear_same, bit_at_clear_other, bit_at-trailing_zeros}
 use Rattle.std.proofs.lemmas.Bool.Decides.{nat_tests}
 use Rattle.std.specs.declared.cmp.Ordering.{Ordering}
 use Rattle.std.specs.declared.cmp.Ordering.TheVariants.{Less, Equal, Greater}
 use Rattle.std.specs.Ordering.{MatchOrdering, nat_cmp}
-use Rattle.std.specs.List.{list_all, zip}
+use Rattle.std.specs.List.{zip}
 use Rattle.std.specs.Cmp.{ranks}
 use Rattle.std.specs.Cmp.Lexicographic.{pointwise}
 use Rattle.algebra.specs.Sets.{has, within, inserted, removed, LowestFrom, Highest, HigherAt, Higher}
 use Rattle.algebra.proofs.Bitsets.{top_highest, same_from_has, lt_higher, has_or, has_none, has_inserted, has_removed, has_small, higher_lt}
-use Rattle.sets.specs.Words.{value, Sized, SameFrom}
+use Rattle.sets.specs.Words.{value, Sized, SameFrom, Blank}
 
 abbrev pub Words : List ℕ → Type 0
 Words xs = (k : ℕ) → get_or xs k 0 < 2 ^ 64
@@ -63,6 +63,15 @@ pointwise-value (x ∷ xs) [] l h g = absurd (omega arith)
 pointwise-value (x ∷ xs) (y ∷ ys) l h g =
     ap (λ b. nat_eq x y && b) (pointwise-value xs ys (omega arith) (λ k. h (suc k)) (λ k. g (suc k))) ∙ grind (arith, nat_tests, h 0, g 0)
 
+pub value_same : (xs ys : List ℕ) → length xs ≡ length ys → Words xs → Words ys → value xs ≡ value ys → xs ≡ ys
+value_same [] [] l h g e = refl
+value_same [] (y ∷ ys) l h g e = absurd (omega arith)
+value_same (x ∷ xs) [] l h g e = absurd (omega arith)
+value_same (x ∷ xs) (y ∷ ys) l h g e =
+    let d : x ≡ y = omega (arith, h 0, g 0) in
+    let q : value xs ≡ value ys = omega (arith, h 0, g 0) in
+    ap₂ (λ v vs. v ∷ vs) d (value_same xs ys (omega arith) (λ k. h (suc k)) (λ k. g (suc k)) q)
+
 -- ---- a rank in its word
 -- the word of rank r, and the rank's bit in it, as the code shifts it there
 abbrev pub word : List ℕ → ℕ → ℕ
@@ -79,9 +88,11 @@ not_zero zero p l h = ap not (eq-eqb (0 * p) 0 (omega arith))
 not_zero (suc zero) p l h = ap not (ne_eqb (1 * p) 0 (λ e. omega arith))
 not_zero (suc (suc b)) p l h = absurd (omega arith)
 
-pub value_has : (xs : List ℕ) (r : ℕ) → Words xs → not (nat_eq (bit_and (word xs r) (flag r)) 0) ≡ has (value xs) r
-value_has xs r h =
-    ap (λ x. not (nat_eq x 0)) (ap (bit_and (word xs r)) (flag_is r) ∙ and_pow (word xs r) (r % 64))
+-- the test of bit j of word i, which are those of rank r
+pub value_has : (xs : List ℕ) (r i j : ℕ) → Words xs → i ≡ r / 64 → j ≡ r % 64 → not (nat_eq (bit_and (get_or xs i 0) (1 * 2 ^ j % 2 ^ 64)) 0) ≡ has (value xs) r
+value_has xs r i j h e d =
+    ap₂ (λ k n. not (nat_eq (bit_and (get_or xs k 0) (1 * 2 ^ n % 2 ^ 64)) 0)) e d
+    ∙ ap (λ x. not (nat_eq x 0)) (ap (bit_and (word xs r)) (flag_is r) ∙ and_pow (word xs r) (r % 64))
     ∙ not_zero (bit_at (word xs r) (r % 64)) (2 ^ (r % 64)) (omega arith) (pow_pos (r % 64)) ∙ sym (has_word xs r h)
 
 set_fits : (xs : List ℕ) (i w : ℕ) → Words xs → i < length xs → w < 2 ^ 64 → Words (set xs i w)
@@ -135,40 +146,77 @@ value_or xs ys zs h g e =
     has_word zs r fits ∙ ap (λ w. has w (r % 64)) (e (r / 64)) ∙ has_or (word xs r) (word ys r) (r % 64)
     ∙ sym (has_or (value xs) (value ys) r ∙ ap₂ (λ x y. x || y) (has_word xs r h) (has_word ys r g)))
 
-within_cons : (x y v u : ℕ) → x < 2 ^ 64 → y < 2 ^ 64 → (within x y && within v u) ≡ within (x + 2 ^ 64 * v) (y + 2 ^ 64 * u)
-within_cons x y v u h g =
+-- words taken together by `|` are 0 where each of them is
+or_zero : (a b : ℕ) → nat_eq (bit_or a b) 0 ≡ (nat_eq a 0 && nat_eq b 0)
+or_zero a b = grind (arith, nat_tests, le_or_l a b, le_or_r a b, or_add_and a b)
+
+-- the ranks of a word that another lacks
+abbrev pub lacking : ℕ × ℕ → ℕ
+lacking p = bit_and p.0 (2 ^ 64 - 1 - p.1)
+
+within_more : (x y v u : ℕ) → x < 2 ^ 64 → y < 2 ^ 64 → (within x y && within v u) ≡ within (x + 2 ^ 64 * v) (y + 2 ^ 64 * u)
+within_more x y v u h g =
     let small = and_lt 64 x y h g in
     let parts : bit_and (x + 2 ^ 64 * v) (y + 2 ^ 64 * u) ≡ bit_and x y + 2 ^ 64 * bit_and v u =
     ap₂ bit_and (turned x v) (turned y u) ∙ and_block 64 v u x y h g ∙ omega arith in
     grind (arith, nat_tests, parts, small)
 
-pub list_all-within : (xs ys : List ℕ) → length xs ≡ length ys → Words xs → Words ys
-    → list_all (λ p. within p.0 p.1) (zip xs ys) ≡ within (value xs) (value ys)
-list_all-within [] [] l h g = refl
-list_all-within [] (y ∷ ys) l h g = absurd (omega arith)
-list_all-within (x ∷ xs) [] l h g = absurd (omega arith)
-list_all-within (x ∷ xs) (y ∷ ys) l h g =
-    ap (λ b. within x y && b) (list_all-within xs ys (omega arith) (λ k. h (suc k)) (λ k. g (suc k)))
-    ∙ within_cons x y (value xs) (value ys) (h 0) (g 0)
+lacking_none : (x y : ℕ) → x < 2 ^ 64 → y < 2 ^ 64 → nat_eq (lacking (x, y)) 0 ≡ within x y
+lacking_none x y h g = grind (arith, nat_tests, and-not 64 y x g h, and_comm x y, and_comm x (2 ^ 64 - 1 - y))
+
+pub fold-within : (a : ℕ) (xs ys : List ℕ) → length xs ≡ length ys → Words xs → Words ys
+    → nat_eq (fold (λ bits p. bit_or bits (lacking p)) a (zip xs ys)) 0 ≡ (nat_eq a 0 && within (value xs) (value ys))
+fold-within a [] [] l h g = grind (arith, nat_tests)
+fold-within a [] (y ∷ ys) l h g = absurd (omega arith)
+fold-within a (x ∷ xs) [] l h g = absurd (omega arith)
+fold-within a (x ∷ xs) (y ∷ ys) l h g =
+    fold-within (bit_or a (lacking (x, y))) xs ys (omega arith) (λ k. h (suc k)) (λ k. g (suc k))
+    ∙ ap (λ b. b && within (value xs) (value ys)) (or_zero a (lacking (x, y)))
+    ∙ grind (arith, nat_tests, lacking_none x y (h 0) (g 0), within_more x y (value xs) (value ys) (h 0) (g 0))
 
 -- ---- the lowest and the highest rank, and where two sets differ
 pub none_here : (xs : List ℕ) → ((k : ℕ) → k < length xs → get_or xs k 0 ≡ 0) → value xs ≡ 0
 none_here [] z = refl
 none_here (x ∷ xs) z = omega (arith, z 0 (omega arith), none_here xs (λ k l. z (suc k) (omega arith)))
 
-pub lowest_here : (xs : List ℕ) (i : ℕ) → Words xs → 0 < get_or xs i 0 → ((k : ℕ) → k < i → get_or xs k 0 ≡ 0)
-    → LowestFrom 0 (value xs) (i * 64 + trailing_zeros w64 (get_or xs i 0))
-lowest_here xs i h p z =
-    let t = bit_at-trailing_zeros w64 (get_or xs i 0) p (h i) in
-    let n = trailing_zeros w64 (get_or xs i 0) in (
+-- the bits of a word from bit j on
+bit_from : (x j m : ℕ) → bit_at x (j + m) ≡ bit_at (x / 2 ^ j) m
+bit_from x j m = ap (λ z. z % 2) (sym (shr-shr x j m))
+
+-- a word with nothing from bit j on
+pub none_word : (xs : List ℕ) (i j : ℕ) → Words xs → get_or xs i 0 / 2 ^ j ≡ 0 → (k : ℕ) → i * 64 + j ≤ k → k < i * 64 + 64 → has (value xs) k ≡ false
+none_word xs i j h z k g l =
+    let m = k - (i * 64 + j) in
+    let o : k ≡ i * 64 + (j + m) = omega arith in
+    ap (λ x. eqb x 1) (ap (bit_at (value xs)) o ∙ value_bit xs i (j + m) h (omega arith) ∙ bit_from (get_or xs i 0) j m ∙ ap (λ x. bit_at x m) z ∙ bit_at-zero m)
+
+-- no rank from m on before word n, where the words from that of m on have none
+pub none_between : (xs : List ℕ) (m n : ℕ) → Words xs → get_or xs (m / 64) 0 / 2 ^ (m % 64) ≡ 0 → Blank (m / 64 + 1) n xs
+    → (k : ℕ) → m ≤ k → k < n * 64 → has (value xs) k ≡ false
+none_between xs m n h e z k g l = elim (cases_lt (m / 64) (k / 64)) [
+  | inl d ↦ none_word xs (k / 64) 0 h (omega (arith, z (k / 64) (omega arith) (omega arith))) k (omega arith) (omega arith)
+  | inr d ↦ none_word xs (m / 64) (m % 64) h e k (omega arith) (omega arith)
+]
+
+-- the first word with something from bit j on has the lowest rank from m on, where the set has none before that bit
+pub lowest_here : (xs : List ℕ) (m i j k : ℕ) → Words xs → 0 < get_or xs i 0 / 2 ^ j → m ≤ i * 64 + j → ((n : ℕ) → m ≤ n → n < i * 64 + j → has (value xs) n ≡ false)
+    → k ≡ i * 64 + j + trailing_zeros w64 (get_or xs i 0 / 2 ^ j) → LowestFrom m (value xs) k
+lowest_here xs m i j k h p l z e =
+    let x = get_or xs i 0 in
+    let t = trailing_zeros w64 (x / 2 ^ j) in
+    let f = bit_at-trailing_zeros w64 (x / 2 ^ j) p (omega (arith, h i)) in
+    let b : bit_at x (j + t) ≡ 1 = bit_from x j t ∙ f.1 in
+    let u : j + t < 64 = has_small x 64 (j + t) (h i) (eq-eqb (bit_at x (j + t)) 1 b) in
+    let o : k ≡ i * 64 + (j + t) = omega arith in (
       omega arith,
-      eq-eqb (bit_at (value xs) (i * 64 + n)) 1 (value_bit xs i n h t.0 ∙ t.1),
-      λ k g l. ap (λ x. eqb x 1) (value_rank xs k h ∙ elim (cases_lt (k / 64) i) [
-        | inl d ↦ ap (λ w. bit_at w (k % 64)) (z (k / 64) d) ∙ bit_at-zero (k % 64)
-        | inr d ↦
-            let e : k / 64 ≡ i = omega (arith, t.0) in
-            ap (λ q. bit_at (get_or xs q 0) (k % 64)) e ∙ t.2 (k % 64) (omega arith)
-      ]),
+      eq-eqb (bit_at (value xs) k) 1 (ap (bit_at (value xs)) o ∙ value_bit xs i (j + t) h u ∙ b),
+      λ n g d. elim (cases_lt n (i * 64 + j)) [
+        | inl c ↦ z n g c
+        | inr c ↦
+            let q = n - (i * 64 + j) in
+            let a : n ≡ i * 64 + (j + q) = omega arith in
+            ap (λ y. eqb y 1) (ap (bit_at (value xs)) a ∙ value_bit xs i (j + q) h (omega (arith, u)) ∙ bit_from x j q ∙ f.2 q (omega arith))
+      ],
     )
 
 -- where words differ in word i and in none above, that word decides
@@ -185,12 +233,13 @@ higher_at xs ys i j s t l f h = (
   ] ∙ sym (has_word ys k t),
 )
 
-pub highest_here : (xs : List ℕ) (i j : ℕ) → Sized xs → j < 64 → 2 ^ j ≤ get_or xs i 0 → get_or xs i 0 < 2 * 2 ^ j
-    → ((k : ℕ) → i < k → k < 8 → get_or xs k 0 ≡ 0) → Highest (value xs) (i * 64 + j)
-highest_here xs i j s l p q z =
+pub highest_here : (xs : List ℕ) (i j r : ℕ) → Sized xs → j < 64 → 2 ^ j ≤ get_or xs i 0 → get_or xs i 0 < 2 * 2 ^ j
+    → ((k : ℕ) → i < k → k < 8 → get_or xs k 0 ≡ 0) → r ≡ i * 64 + j → Highest (value xs) r
+highest_here xs i j r s l p q z e =
+    subst (Highest (value xs)) (sym e) (
     let t = top_highest (get_or xs i 0) j p (omega (arith, q)) in
     let h = higher_at xs [] i j s.1 (λ k. omega arith) l above (t.0, has_none j, λ k g. t.1 k g ∙ sym (has_none k)) in
-    (h.0, λ k g. h.2 k g ∙ has_none k)
+    (h.0, λ k g. h.2 k g ∙ has_none k))
   where
     above : (k : ℕ) → i < k → get_or xs k 0 ≡ 0
     above k d = elim (cases_lt k 8) [ inl h ↦ z k d h | inr h ↦ get_or_past xs k 0 (omega (arith, s.0)) ]
@@ -205,6 +254,9 @@ higher_here xs ys i s t f l =
       | inl h ↦ f k (omega arith) h
       | inr h ↦ get_or_past xs k 0 (omega (arith, s.0)) ∙ sym (get_or_past ys k 0 (omega (arith, t.0)))
     ]
+
+pub same_words : (xs ys : List ℕ) → Sized xs → Sized ys → SameFrom 0 xs ys → value xs ≡ value ys
+same_words xs ys s t f = ap value (ext_get_or 0 xs ys (omega (arith, s.0, t.0)) (λ k l. f k (omega arith) (omega (arith, s.0))))
 
 abbrev pub RanksDecide : Ordering → ℕ → ℕ → Type 0
 RanksDecide o A B = MatchOrdering o (Higher B A) (A ≡ B) (Higher A B)

@@ -46,13 +46,15 @@ impl RankSet {
         self.words = array::from_fn(|i| self.words[i] | other.words[i]);
     }
 
-    // Whether another set has each rank of this one.
+    // Whether another set has each rank of this one: by all words at once, which takes less time than to stop at the first that fails.
     pub fn is_within(&self, other: &RankSet) -> bool
         ensures { result ≡ within (number self.now) (number other.now) }
     {
-        self.words
+        let missing = self
+            .words
             .iter()
             .zip(&other.words)
-            .all(|(word, wider)| word & wider == *word)
+            .fold(0, |bits, (word, wider)| bits | (word & !wider));
+        missing == 0
     }
 }

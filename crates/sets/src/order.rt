@@ -40,8 +40,9 @@ impl PartialEq for RankSet {
 
     ghost laws = { partial_equiv_from_equiv (Prim.search (comparing, rules)) };
 
+    // The highest word first, since `==` of the words comes to it last, and sets of high ranks differ there.
     fn eq(&self, other: &RankSet) -> bool {
-        self.words == other.words
+        self.words[WORDS - 1] == other.words[WORDS - 1] && self.words == other.words
     }
 }
 

@@ -1,29 +1,37 @@
--- A table of claims whose last one is changed.
-use Rattle.std.proofs.Common.{◌≡◌, ◌<◌, ◌-◌, Bool, true, false, List, [], ◌∷◌, ◌++◌, length, set, get_or, sym, ap, ◌∙◌, arith, if◌then◌else◌}
-use Rattle.std.proofs.lemmas.List.{map-set, set-get_or, get_or-map, length-map}
-use Rattle.arrayvec.specs.ArrayVec.{ArrayVec}
+-- A claim of a table that is changed.
+use Rattle.std.proofs.Common.{◌≡◌, ℕ, ◌<◌, ◌≤◌, ◌-◌, Bool, true, false, List, [], ◌∷◌, ◌++◌, length, take, set, get_or, sym, ap, ◌∙◌, arith, if◌then◌else◌}
+use Rattle.std.proofs.Math.Seq.{take-set-lt}
+use Rattle.std.proofs.lemmas.List.{map-set, set-get_or, get_or-take, get_or-map, length-map, length-take-le}
+use Rattle.sheet.specs.declared.bounded.Bounded.{Bounded}
 use Rattle.sheet.specs.declared.term.Term.{Term}
-use Rattle.sheet.specs.Claimed.{terms_of, latest, on_latest}
+use Rattle.sheet.specs.Held.{held}
+use Rattle.sheet.specs.Claimed.{terms_of, on_latest}
 
-abbrev terms : ArrayVec Term → List Term
-terms v = v.items
+-- the claims that the first n places of a table hold
+abbrev claims : List (Bounded Term 64) → ℕ → List (List Term)
+claims ts n = terms_of (take n ts)
 
-abbrev with_latest : List (List Term) → List Term → List (List Term)
-with_latest cs x = set cs (length cs - 1) x
+many : (ts : List (Bounded Term 64)) (n : ℕ) → n ≤ length ts → length (claims ts n) ≡ n
+many ts n h = length-map (take n ts) held ∙ length-take-le n ts h
 
-terms_of-set_last : (ts : List (ArrayVec Term)) (is : ArrayVec Term) → terms_of (set ts (length ts - 1) is) ≡ with_latest (terms_of ts) is.items
-terms_of-set_last ts is = rw (length-map ts terms) (map-set terms ts (length ts - 1) is)
+changed : (ts : List (Bounded Term 64)) (n i : ℕ) (b : Bounded Term 64) → i < n → claims (set ts i b) n ≡ set (claims ts n) i (held b)
+changed ts n i b h = ap terms_of (take-set-lt n ts i b h) ∙ map-set held (take n ts) i b
 
-latest-terms_of : (ts : List (ArrayVec Term)) (was : ArrayVec Term) → 0 < length ts → was ≡ get_or ts (length ts - 1) was → latest (terms_of ts) ≡ was.items
-latest-terms_of ts was h l = rw (length-map ts terms) (get_or-map terms ts (length ts - 1) was [] (omega arith) ∙ ap terms (sym l))
+at_claim : (ts : List (Bounded Term 64)) (n i : ℕ) (d : Bounded Term 64) → i < n → n ≤ length ts → get_or (claims ts n) i [] ≡ held (get_or ts i d)
+at_claim ts n i d h l =
+    let k = length-take-le n ts l in
+    get_or-map held (take n ts) i d [] (omega arith) ∙ ap held (get_or-take n ts i d h)
 
--- the last claim has one term more, or none of the claims changes
+-- the last of the m claims has one term more, or none of the claims changes
 pub added :
-    (ts : List (ArrayVec Term)) (was is : ArrayVec Term) (t : Term) (granted : Bool) →
-    0 < length ts → was ≡ get_or ts (length ts - 1) was →
-    is.items ≡ (if granted then was.items ++ t ∷ [] else was.items) →
-    terms_of (set ts (length ts - 1) is) ≡ (if granted then on_latest (terms_of ts) t else terms_of ts)
-added ts was is t true h l e =
-    terms_of-set_last ts is ∙ ap (with_latest (terms_of ts)) (e ∙ ap (λ x. x ++ t ∷ []) (sym (latest-terms_of ts was h l)))
-added ts was is t false h l e =
-    terms_of-set_last ts is ∙ ap (with_latest (terms_of ts)) (e ∙ sym (latest-terms_of ts was h l)) ∙ set-get_or (terms_of ts) (length (terms_of ts) - 1) []
+    (ts : List (Bounded Term 64)) (n m : ℕ) (was is : Bounded Term 64) (t : Term) (granted : Bool) →
+    m ≡ length (claims ts n) → 0 < m → n ≤ length ts →
+    held is ≡ (if granted then held (get_or ts (m - 1) was) ++ t ∷ [] else held (get_or ts (m - 1) was)) →
+    claims (set ts (m - 1) is) n ≡ (if granted then on_latest (claims ts n) t else claims ts n)
+added ts n m was is t true c h l e =
+    let last : m - 1 < n = omega (arith, many ts n l) in
+    changed ts n (m - 1) is last ∙ ap (set (claims ts n) (m - 1)) (e ∙ ap (λ x. x ++ t ∷ []) (sym (at_claim ts n (m - 1) was last l)))
+    ∙ ap (λ (k : ℕ). set (claims ts n) (k - 1) (get_or (claims ts n) (k - 1) [] ++ t ∷ [])) c
+added ts n m was is t false c h l e =
+    let last : m - 1 < n = omega (arith, many ts n l) in
+    changed ts n (m - 1) is last ∙ ap (set (claims ts n) (m - 1)) (e ∙ sym (at_claim ts n (m - 1) was last l)) ∙ set-get_or (claims ts n) (m - 1) []

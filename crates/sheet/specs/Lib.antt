@@ -1,3 +1,4 @@
+pub mod Held
 pub mod Gates
 pub mod Kinds
 pub mod KindLaws

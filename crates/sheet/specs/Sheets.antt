@@ -14,6 +14,7 @@ use Rattle.sheet.specs.declared.gate.Declared.{Declared}
 use Rattle.sheet.specs.declared.term.Term.{Term}
 use Rattle.sheet.specs.declared.open.Word.{Word as WordRecord}
 use Rattle.sheet.specs.declared.open.OpenSheet.{OpenSheet}
+use Rattle.sheet.specs.Held.{held}
 use Rattle.sheet.specs.Claimed.{claims_of}
 use Rattle.sheet.specs.Kinds.{Kind, kind_in}
 
@@ -63,7 +64,7 @@ has l [] = false
 has l (x ∷ xs) = x == l || has l xs
 
 abbrev pub word_of : WordRecord → Word
-word_of w = record { bits = w.bits.items; closed = w.closed }
+word_of w = record { bits = held w.bits; closed = w.closed }
 
 abbrev pub sheet_of : OpenSheet → Sheet
 sheet_of o = record {

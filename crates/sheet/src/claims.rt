@@ -1,12 +1,24 @@
 // The claims of a sheet, each a list of terms.
+ghost use Rattle.std.specs.Prelude.{◌≤◌};
+
+use crate::bounded::Bounded;
 use crate::term::Term;
-use arrayvec::ArrayVec;
 use store::slot::Full;
 
-// At most eight claims, of at most 64 terms each.
-#[derive(Clone, Drop)]
+const MOST_CLAIMS: usize = 8;
+
+// How many claims there are: a type of its own, so that its bound stands while a claim of the table is lent.
+#[derive(Clone, Copy)]
+struct ClaimCount {
+    n: usize,
+    ghost few: { n ≤ 8 },
+}
+
+// At most eight claims, of at most 64 terms each: the first `count` of the table are there.
+#[derive(Clone, Copy)]
 pub struct Claims {
-    table: ArrayVec<ArrayVec<Term, 64>, 8>,
+    table: [Bounded<Term, 64>; 8],
+    count: ClaimCount,
 }
 
 impl Claims {
@@ -17,21 +29,26 @@ impl Claims {
         ensures { claims_of result ≡ [] }
     {
         Claims {
-            table: ArrayVec::new(),
+            table: [Bounded::new(Term::default()); 8],
+            count: ClaimCount { n: 0 },
         }
     }
 
     pub fn count(&self) -> usize
         ensures { result ≡ length (claims_of self.now) }
     {
-        self.table.len()
+        self.count.n
     }
 
     // The terms of a claim; none where there is no such claim.
     pub fn terms(&self, n: usize) -> &[Term]
         ensures { result.now ≡ slice_index_or (claims_of self.now) n [] }
     {
-        self.table.get(n).map_or(&[], ArrayVec::as_slice)
+        if n < self.count() {
+            self.table[n].as_slice()
+        } else {
+            &[]
+        }
     }
 
     // One claim more, without terms, or, where there are eight, a refusal that changes nothing.
@@ -39,25 +56,37 @@ impl Claims {
         ensures answer { is_ok result ≡ nat_lt (length (claims_of self.old)) 8 }
         ensures after { claims_of self.new ≡ (if is_ok result then claims_of self.old ++ [] ∷ [] else claims_of self.old) }
     {
-        self.table.try_push(ArrayVec::new()).map_err(|_| Full)
+        let n = self.count();
+        if n == MOST_CLAIMS {
+            return Err(Full);
+        }
+        let claim = &mut self.table[n];
+        claim.clear();
+        self.count = ClaimCount { n: n + 1 };
+        Ok(())
     }
 
     // How many terms the claim opened last has; 0 where there is none.
     pub fn latest_len(&self) -> usize
         ensures { result ≡ length (latest_of (claims_of self.now)) }
     {
-        self.table.last().map_or(0, ArrayVec::len)
+        let n = self.count();
+        if n == 0 {
+            return 0;
+        }
+        self.table[n - 1].len()
     }
 
-    // One term more in the claim opened last, or, where it has 64, a refusal that changes nothing. Where there is no claim, nothing changes. A match,
-    // for what is changed is lent, which `map_or` would make no shorter.
+    // One term more in the claim opened last, or, where it has 64, a refusal that changes nothing. Where there is no claim, nothing changes.
     pub fn add_term(&mut self, term: Term) -> Result<(), Full>
         ensures after { claims_of self.new ≡ (if is_ok result then on_latest (claims_of self.old) term else claims_of self.old) }
         ensures answer { is_ok result ≡ nat_lt (length (latest_of (claims_of self.old))) 64 }
     {
-        match self.table.last_mut() {
-            Some(claim) => claim.try_push(term).map_err(|_| Full),
-            None => Ok(()),
+        let n = self.count();
+        if n == 0 {
+            return Ok(());
         }
+        let claim = &mut self.table[n - 1];
+        claim.push(term)
     }
 }

@@ -1,6 +1,7 @@
 // Netlists as they are read: gates, words and claims on a sheet, and what declares them.
 #![tactic(auto)]
 
+pub mod bounded;
 pub mod claims;
 pub mod coefficients;
 pub mod draft;

@@ -1,13 +1,14 @@
 // A sheet as it is read: tables of fixed size.
+use crate::bounded::Bounded;
 use crate::claims::Claims;
 use crate::coefficients::Coefficients;
 use crate::gate::Declared;
 use arrayvec::ArrayVec;
 
 // The labels of a word's bits, from position 0, and whether it was closed.
-#[derive(Clone, Drop)]
+#[derive(Clone, Copy)]
 pub struct Word {
-    bits: ArrayVec<u16, 32>,
+    bits: Bounded<u16, 32>,
     closed: bool,
 }
 

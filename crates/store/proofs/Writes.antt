@@ -40,10 +40,10 @@ pub record Formed (p : Poly) : Type 0 where
   pub bounded : Bounded p
 
 module _ {K : Type 0} {key : _} {o : _} {e : _} {p : _} (t : Table K key o e p) where
-  pub slot_removed : (i : ℕ) (ys : List (Slot K)) → i < t.len → ys ≡ copy_within t.slots.now (i + 1) t.len i
+  pub slot_removed : (i n : ℕ) (ys : List (Slot K)) → i < t.len → ys ≡ copy_within t.slots.now (i + 1) n i → n ≡ t.len
       → terms key.number ys (t.len - 1) ≡ remove (contents t) i
-  slot_removed i ys lt is =
-      ap (map (term key.number)) (ap (take (t.len - 1)) is ∙ closed t.slots.now t.len i lt t.within) ∙
+  slot_removed i n ys lt is all =
+      ap (map (term key.number)) (ap (take (t.len - 1)) (is ∙ ap (λ n. copy_within t.slots.now (i + 1) n i) all) ∙ closed t.slots.now t.len i lt t.within) ∙
       map_removed (term key.number) (take t.len t.slots.now) i
 
   pub slot_inserted : (i : ℕ) (x : Slot K) (ys : List (Slot K)) → i ≤ length (contents t) → t.len < room t → ys ≡ copy_within t.slots.now i t.len (i + 1)
@@ -69,11 +69,14 @@ module _ {K : Type 0} {key : _} {o : _} {e : _} {p : _} (t : Table K key o e p) 
       let p' = put (contents t) S v in
       rw is (record { sorted = sorted_from p' rising; nonzero = nonzero_from p' rising; bounded = bounded_put (contents t) S v lt t.bounded })
 
-  pub granted : (q : Poly) (S v : ℕ) → length q ≤ room t → q ≡ put (contents t) S v → Wrote (fits (at_most (room t))) (contents t) S v q true
-  granted q S v within is = record {
-    answer = sym (le-leb (length (standing (put (contents t) S v))) (room t) (omega (arith, length_standing (put (contents t) S v), ap length is)));
-    after = is;
-  }
+  -- where w was put in the place of v
+  pub granted : (q : Poly) (S w v : ℕ) → length q ≤ room t → q ≡ put (contents t) S w → w ≡ v → Wrote (fits (at_most (room t))) (contents t) S v q true
+  granted q S w v within is same =
+      let after = is ∙ ap (put (contents t) S) same in
+      record {
+        answer = sym (le-leb (length (standing (put (contents t) S v))) (room t) (omega (arith, length_standing (put (contents t) S v), ap length after)));
+        after = after;
+      }
 
   pub refused : (S v i : ℕ) → t.len ≡ room t → FallsAt (contents t) S i → (v ≡ 0 → ⊥) → Wrote (fits (at_most (room t))) (contents t) S v (contents t) false
   refused S v i full h z = record {

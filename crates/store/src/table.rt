@@ -6,6 +6,7 @@ ghost use Rattle.store.specs.Answers.{Handed};
 
 use crate::key::Key;
 use crate::slot::{Full, Slot};
+use std::cmp::Ordering;
 
 // The slots are lent, with no heap to hold a Vec: the first `len` of them hold the contents.
 #[derive(Drop)]
@@ -54,11 +55,22 @@ impl<K: Key> Table<'_, K> {
         &self.slots[..self.len]
     }
 
-    // Where the key stands, or else where it would.
+    // Where the key stands, or else where it would. By hand, since the library's search halves down to one slot even where it meets the key.
     fn find(&self, key: &K) -> Result<usize, usize>
         ensures { MatchResult result (StandsAt (contents self.now) (K.number key.now)) (FallsAt (contents self.now) (K.number key.now)) }
     {
-        self.standing().binary_search_by(|slot| slot.key.cmp(key))
+        let slots = self.standing();
+        let mut low = 0;
+        let mut high = self.len;
+        while low < high {
+            let middle = low + (high - low) / 2;
+            match slots[middle].key.cmp(key) {
+                Ordering::Less => low = middle + 1,
+                Ordering::Equal => return Ok(middle),
+                Ordering::Greater => high = middle,
+            }
+        }
+        Err(low)
     }
 
     // The key's number, or 0, the number of what does not stand. A match, since `map_or` would join both cases into one goal.
@@ -80,6 +92,7 @@ impl<K: Key> Table<'_, K> {
     }
 
     // The highest key, likewise.
+    #[tactic(auto, using(crate::proofs::Ends::highest_is_last))]
     pub fn highest(&self, place: &mut K) -> Option<u32>
         ensures { Handed K.number (highest_of (contents self.now)) result place.old place.new }
     {

@@ -7,6 +7,7 @@ use crate::bucket::Buckets;
 use crate::chains::wipe;
 use crate::term::Term;
 use sets::RankSet;
+use std::cmp::Reverse;
 use store::Store;
 use store::check::slots_taken;
 use store::slot::Full;
@@ -56,13 +57,14 @@ impl Store for Buckets<'_> {
         }
     }
 
-    // The two ends differ in one method of the iterator, so that a function over both would take a closure for three lines.
+    // The two ends differ in the key alone, and a function over both would take a closure for three lines. The key is lent, so that no set is
+    // copied. `max_by_key` would choose without a branch, and wait for each comparison before it begins the next.
     fn highest(&self, place: &mut RankSet) -> Option<u32> {
         let highest = self
             .slots
             .iter()
             .filter(|t| t.code != 0)
-            .max_by_key(|t| t.set)?;
+            .min_by_key(|t| Reverse(&t.set))?;
         *place = highest.set;
         Some(highest.code)
     }
@@ -72,7 +74,7 @@ impl Store for Buckets<'_> {
             .slots
             .iter()
             .filter(|t| t.code != 0)
-            .min_by_key(|t| t.set)?;
+            .min_by_key(|t| &t.set)?;
         *place = lowest.set;
         Some(lowest.code)
     }

@@ -1,16 +1,12 @@
-use Rattle.std.proofs.Common.{ap, arith}
-use Rattle.std.proofs.lemmas.List.{ext_get_or}
 use Rattle.sets.specs.Numbers.{number}
-use Rattle.sets.specs.Words.{value}
-use Rattle.sets.proofs.Worded.{RanksDecide, decided_here, numbers_decide}
+use Rattle.sets.proofs.Worded.{same_words, RanksDecide, decided_here, numbers_decide}
 use Rattle.sets.proofs.RankSet.compare.Goals as goal
 
 pub returns-in-None : goal.returns-in-None
 returns-in-None c =
     let s = c.args.self.now in
     let t = c.args.other.now in
-    let f = c.in-None.ensures.same in
-    let same = ap value (ext_get_or 0 s.words t.words (omega (arith, s.sized.0, t.sized.0)) (λ k l. f k (omega arith) (omega (arith, s.sized.0)))) in
+    let same = same_words s.words t.words s.sized t.sized c.in-None.ensures.same in
     record { numbers = same; ranks = same }
 
 pub returns-in-Some : goal.returns-in-Some

@@ -1,4 +1,4 @@
-use Rattle.std.proofs.Common.{rules}
+use Rattle.std.proofs.Common.{rules, arith}
 use Rattle.sets.proofs.Worded.{none_here, highest_here}
 use Rattle.sets.proofs.RankSet.highest.Goals as goal
 
@@ -9,4 +9,4 @@ pub returns : goal.returns
 returns c =
     let s = c.args.self.now in
     let top = c.ilog2.ensures in
-    highest_here s.words c.in_ok-i.i c.ilog2.result s.sized top.bound top.power_le top.next_power_gt (λ k l h. search rules)
+    highest_here s.words c.in_ok-i.i c.ilog2.result _ s.sized top.bound top.power_le top.next_power_gt (λ k l h. search rules) (omega arith)

@@ -1,4 +1,4 @@
-use Rattle.std.proofs.Common.{sym, ◌∙◌}
+use Rattle.std.proofs.Common.{arith, sym, ◌∙◌}
 use Rattle.std.proofs.lemmas.Bool.{le-ltb}
 use Rattle.algebra.proofs.Bitsets.{has_past, membership}
 use Rattle.sets.specs.Numbers.{number}
@@ -9,7 +9,7 @@ use Rattle.sets.proofs.RankSet.holds.Goals as goal
 pub returns-then-rank-lt-RANKS : goal.returns-then-rank-lt-RANKS
 returns-then-rank-lt-RANKS c =
     let s = c.args.self.now in
-    record { value = rw c.from.ensures (value_has s.words c.args.rank s.sized.1); law = membership }
+    record { value = value_has s.words c.args.rank _ _ s.sized.1 (omega (arith, c.from.ensures)) (omega arith); law = membership }
 
 pub returns-else-rank-lt-RANKS : goal.returns-else-rank-lt-RANKS
 returns-else-rank-lt-RANKS c =

@@ -13,10 +13,10 @@ pub overflow_sub-last : goal.overflow_sub-last
 overflow_sub-last c = count_le _ c.args.self.now.sound
 
 pub release-requires-clause-spare : goal.release-requires-clause-spare
-release-requires-clause-spare c = omega (arith, count_le _ c.args.self.now.sound, found_counts _ c.args.self.now.sound (found_at c.requires.taken), c.relink.ensures.long)
+release-requires-clause-spare c = omega (arith, count_le _ c.args.self.now.sound, found_counts c.args.self.now.sound (found_at c.requires.taken), c.relink.ensures.long)
 
 pub overflow_sub-self : goal.overflow_sub-self
-overflow_sub-self c = found_counts _ c.args.self.now.sound (found_at c.requires.taken)
+overflow_sub-self c = found_counts c.args.self.now.sound (found_at c.requires.taken)
 
 pub invariant_of-self : goal.invariant_of-self
 invariant_of-self c = record { sound = (written c).sound }

@@ -1,17 +1,21 @@
-use Rattle.std.proofs.Common.{rules}
-use Rattle.std.specs.Ordering.{nat_cmp}
-use Rattle.std.proofs.lemmas.Fn.{always_returns_same}
-use Rattle.store.proofs.Searches.{searched}
+use Rattle.std.proofs.Common.{rules, arith}
+use Rattle.store.proofs.Searches.{narrowed_up, narrowed_down, narrowed_here, narrowed_none}
 use Rattle.store.proofs.table.Table.find.Goals as goal
 
--- the closure compares a slot's key, and the slice is the standing slots
+pub loop-low-preserved-in-Less : goal.loop-low-preserved-in-Less
+loop-low-preserved-in-Less g c =
+    let law = g.met.K.Key.by_number c.index-slots-middle.result.key c.args.key.now in
+    narrowed_up c.args.self.now _ c.standing-slots.ensures _ _ _ _ c.index-slots-middle.result c.loop-low.invariant (omega arith) (omega arith) (search rules)
+
+pub returns-in-Equal : goal.returns-in-Equal
+returns-in-Equal g c =
+    let law = g.met.K.Key.by_number c.index-slots-middle.result.key c.args.key.now in
+    narrowed_here c.args.self.now _ c.standing-slots.ensures _ _ _ _ c.index-slots-middle.result c.loop-low.invariant (omega arith) (omega arith) (search rules)
+
+pub loop-low-preserved : goal.loop-low-preserved
+loop-low-preserved g c =
+    let law = g.met.K.Key.by_number c.index-slots-middle.result.key c.args.key.now in
+    narrowed_down c.args.self.now _ c.standing-slots.ensures _ _ _ _ c.index-slots-middle.result c.loop-low.invariant (omega arith) (omega arith) (search rules)
+
 pub returns : goal.returns
-returns g c =
-    let number = g.K.Key.number in
-    let key = c.args.key.now in
-    let facts = c.binary_search_by.ensures in
-    let by_key =
-    facts.position (λ slot. nat_cmp (number slot.key) (number key))
-    (always_returns_same _ _ _ (λ a r h called. let law = g.met.K.Key.by_number a.0.now.key key in search rules))
-    in
-    rw (← c.standing.ensures) (searched number c.standing.result.now (rw c.standing.ensures c.args.self.now.sorted) key _ facts.bound by_key)
+returns g c = narrowed_none _ _ _ _ c.loop-low.invariant c.loop-low-test.false
